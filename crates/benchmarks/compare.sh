@@ -7,8 +7,8 @@
 # runs in one process, and on standard error `check .. VALUE`.
 # With PEER_REDUCTION in the environment, reductions below all nodes are compared with that program too: PEER_REDUCTION
 # SHAPE NODES EDGES prints a line that ends with the seconds of one reduction of such a dag, of its own making.
-# With PEER_QUESTIONS in the environment, a second table compares questions and schedules with that program, of the same
-# form as PEER_BENCH: the one in .ci/peer.
+# With PEER_QUESTIONS in the environment, a second table compares questions, schedules and dags of other types with that
+# program, of the same form as PEER_BENCH: the one in .ci/peer.
 # PEER_PROGRAM compact reads command lines and writes replies.
 set -eu
 peer_bench=$([ "$1" = - ] && echo - || realpath "$1")
@@ -103,7 +103,7 @@ program() { # ROUNDS
   echo " $same |"
 }
 
-questions() { # NODES EDGES REPS NAME ..: questions about random pairs of nodes, orders and schedules, of both kinds
+questions() { # NODES EDGES REPS NAME ..: these workloads over random dags of both kinds
   local nodes=$1 edges=$2
   reps=$3
   shift 3
@@ -182,4 +182,8 @@ if [ -n "${PEER_QUESTIONS:-}" ]; then
   questions 1000 3000 301 "${names[@]}"
   questions 100000 500000 7 "${names[@]}"
   questions 1000000 5000000 1 ready schedule
+  types=(find_edge walk_u16 walk_usize build_texts)
+  questions 300 900 2001 "${types[@]}"
+  questions 10000 50000 41 "${types[@]}"
+  questions 100000 500000 7 find_edge walk_usize build_texts
 fi

@@ -5,6 +5,7 @@
 mod inputs;
 mod questions;
 mod schedules;
+mod types;
 
 use inputs::{asked_pairs, random_pairs};
 use petgraph::algo::{has_path_connecting, DfsSpace};
@@ -162,11 +163,30 @@ fn run<G: Graph>(graph: G, request: &Request, pairs: &[(u32, u32)]) -> Option<(f
     Some(figures)
 }
 
+/// The time and the check value of a workload over a graph that it builds itself, if it is one.
+fn run_built(request: &Request, pairs: &[(u32, u32)]) -> Option<(f64, u64)> {
+    let figures = match (request.name.as_str(), request.stable) {
+        ("find_edge", false) => types::find_edges::<DiGraph<i64, i64>>(request, pairs),
+        ("find_edge", true) => types::find_edges::<StableDiGraph<i64, i64>>(request, pairs),
+        ("walk_u16", false) => types::walk::<u16, DiGraph<i64, i64, u16>>(request, pairs),
+        ("walk_u16", true) => types::walk::<u16, StableDiGraph<i64, i64, u16>>(request, pairs),
+        ("walk_usize", false) => types::walk::<usize, DiGraph<i64, i64, usize>>(request, pairs),
+        ("walk_usize", true) => types::walk::<usize, StableDiGraph<i64, i64, usize>>(request, pairs),
+        ("build_texts", false) => types::build_texts::<DiGraph<String, String>>(request, pairs),
+        ("build_texts", true) => types::build_texts::<StableDiGraph<String, String>>(request, pairs),
+        _ => return None,
+    };
+    Some(figures)
+}
+
 fn main() {
     let words: Vec<String> = std::env::args().skip(1).collect();
     let figures = Request::of_words(&words).and_then(|request| {
         let pairs = random_pairs(request.nodes, request.edges);
-        let figures = if request.stable {
+        let built = run_built(&request, &pairs);
+        let figures = if built.is_some() {
+            built
+        } else if request.stable {
             run(
                 &build::<StableDiGraph<i64, i64>>(request.nodes, &pairs),
                 &request,

@@ -7,7 +7,7 @@ use daggy::json::{
 use daggy::run::{Plan, plan};
 use daggy::schedule::Schedule;
 use daggy::walker::{Filter, Take};
-use daggy::{Dag, EdgeIndex, NodeIndex, StableDag, Walker};
+use daggy::{Dag, EdgeIndex, IndexType, NodeIndex, StableDag, Walker};
 use daggy_base::store::Store;
 use daggy_dag::acyclic::Acyclic;
 use serde_json::Value;
@@ -61,6 +61,9 @@ pub trait Graph: Drop {
 
     /// The nodes in stages, each node after its parents.
     fn stages(&self, alloc: Global) -> Result<Vec<Vec<NodeIndex<u32>>>, AllocError>;
+
+    /// The index of an edge from a node to another, or the greatest number if there is none.
+    fn found(&self, a: u32, b: u32) -> u64;
 
     /// Whether a path leads from a node to another.
     fn leads(&mut self, a: u32, b: u32) -> bool;
@@ -131,7 +134,7 @@ pub fn node(i: u32) -> NodeIndex<u32> {
 }
 
 #[inline]
-fn mixed_step(sum: u64, item: (EdgeIndex<u32>, NodeIndex<u32>)) -> u64 {
+fn mixed_step<Ix: IndexType>(sum: u64, item: (EdgeIndex<Ix>, NodeIndex<Ix>)) -> u64 {
     mixed(sum, item.0.index() as u64 ^ item.1.index() as u64)
 }
 
@@ -162,10 +165,11 @@ fn weight_in(value: &Value) -> Result<Option<i64>, AllocError> {
     Ok(value.as_i64())
 }
 
+/// A number of the walk over the children of a node.
 #[inline]
-fn children_sum<S: Store<u32, NodeWeight = i64, EdgeWeight = i64>>(
-    dag: &Acyclic<i64, i64, u32, S>,
-    n: NodeIndex<u32>,
+pub fn children_sum<Ix: IndexType, S: Store<Ix, NodeWeight = i64, EdgeWeight = i64>>(
+    dag: &Acyclic<i64, i64, Ix, S>,
+    n: NodeIndex<Ix>,
 ) -> u64 {
     let mut sum = 0u64;
     let mut walker = dag.children(n);
@@ -289,6 +293,14 @@ impl<S: Store<u32, NodeWeight = i64, EdgeWeight = i64>> Graph for Acyclic<i64, i
     fn stages(&self, alloc: Global) -> Result<Vec<Vec<NodeIndex<u32>>>, AllocError> {
         let Plan { stages, .. } = plan(alloc, self)?;
         Ok(stages)
+    }
+
+    #[inline]
+    fn found(&self, a: u32, b: u32) -> u64 {
+        match self.find_edge(node(a), node(b)) {
+            Some(e) => e.index() as u64,
+            None => u64::MAX,
+        }
     }
 
     #[inline]

@@ -18,6 +18,7 @@ mod reductions;
 mod removals;
 mod schedules;
 mod small;
+mod types;
 mod workload;
 
 use crate::commands::write_commands;

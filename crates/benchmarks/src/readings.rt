@@ -1,8 +1,8 @@
 //! Dags that are gone through and copied.
-use crate::builds::sorted;
+use crate::builds::{build, sorted};
 use crate::figures::{Figures, median, since};
-use crate::graph::{Graph, Kind};
-use crate::inputs::Sizes;
+use crate::graph::{Graph, Kind, mixed};
+use crate::inputs::{Sizes, random_pairs};
 use std::io;
 use std::rt::CpuClock;
 
@@ -65,6 +65,24 @@ pub fn read<G: Kind, R: AllocGlobal + CpuClock>(
         let mut check = 0u64;
         for _ in 0..10u8 {
             check = check.wrapping_add(reading.sum(&dag, sizes.nodes));
+        }
+        let time = since(rt, start)?;
+        Ok(Figures { time, check })
+    })
+}
+
+/// Looking for each edge by its ends.
+pub fn find_edges<G: Graph, R: AllocGlobal + CpuClock>(
+    rt: &R,
+    sizes: Sizes,
+) -> io::Result<Figures> {
+    let pairs = random_pairs(rt.alloc(), sizes)?;
+    let dag = build::<G>(rt.alloc(), sizes.nodes, pairs.as_slice())?;
+    median(rt.alloc(), sizes.reps, || {
+        let start = rt.process_cpu_time()?;
+        let mut check = 0u64;
+        for (a, b) in pairs.as_slice() {
+            check = mixed(check, dag.found(*a, *b));
         }
         let time = since(rt, start)?;
         Ok(Figures { time, check })

@@ -9,11 +9,12 @@ use crate::graph::Kind;
 use crate::inputs::Sizes;
 use crate::plans::plan_stages;
 use crate::questions::{Question, ask};
-use crate::readings::{Reading, copy, map_weights, read};
+use crate::readings::{Reading, copy, find_edges, map_weights, read};
 use crate::reductions::{Shape, close, compare, reduce_all, reduce_layers};
 use crate::removals::{Part, remove};
 use crate::schedules::{Listing, list, schedule};
 use crate::small::{Life, many};
+use crate::types::Types;
 use daggy::{Dag, StableDag};
 use std::io;
 use std::rt::CpuClock;
@@ -32,6 +33,8 @@ pub enum Workload {
     AddChildTree,
     Many(Life),
     Read(Reading),
+    FindEdges,
+    Types(Types),
     MapWeights,
     Copy,
     Remove(Part),
@@ -68,6 +71,10 @@ impl Workload {
             "fold_children" => Some(Workload::Read(Reading::FoldChildren)),
             "take_even" => Some(Workload::Read(Reading::TakeEven)),
             "edge_list" => Some(Workload::Read(Reading::EdgeList)),
+            "find_edge" => Some(Workload::FindEdges),
+            "walk_u16" => Some(Workload::Types(Types::ShortIndices)),
+            "walk_usize" => Some(Workload::Types(Types::WideIndices)),
+            "build_texts" => Some(Workload::Types(Types::Texts)),
             "map_weights" => Some(Workload::MapWeights),
             "copy" => Some(Workload::Copy),
             "remove_nodes" => Some(Workload::Remove(Part::Nodes)),
@@ -125,6 +132,8 @@ impl Workload {
             Workload::AddEdges => add_edges::<G, R>(rt, sizes),
             Workload::AddChildTree => add_child_tree::<G, R>(rt, sizes),
             Workload::Read(reading) => read::<G, R>(rt, reading, sizes),
+            Workload::FindEdges => find_edges::<G, R>(rt, sizes),
+            Workload::Types(types) => types.run::<R>(rt, G::keeps_indices(), sizes),
             Workload::MapWeights => map_weights::<G, R>(rt, sizes),
             Workload::Copy => copy::<G, R>(rt, sizes),
             Workload::Remove(part) => remove::<G, R>(rt, part, sizes),

@@ -17,14 +17,14 @@ use Rattle.daggy_json.proofs.WrittenDocuments.{document_weaker}
 
 -- nothing was written yet
 pub stands_new : {W : Type 0} {contents : W → Option (List ℕ)} (writer : W) (a : TextWriter W)
-    → a.writer.now ≡ writer → a.block.items ≡ [] → a.after_value ≡ false → a.fault ≡ None
+    → a.writer.now ≡ writer → a.block ≡ [] → a.after_value ≡ false → a.fault ≡ None
     → Stands contents (contents writer) [] a
 unfolding print_from ArePrintable
 stands_new {contents = contents} writer a is nothing place no_fault =
     record {
       printable = tt;
       place = place;
-      holds = subst (λ f. HasText (contents writer) [] f (contents a.writer.now) a.block.items) (sym no_fault)
+      holds = subst (λ f. HasText (contents writer) [] f (contents a.writer.now) a.block) (sym no_fault)
           ([], subst (λ w. Appends (contents writer) (contents w) []) (sym is) (Appends-nil (contents writer)), sym nothing);
     }
 

@@ -42,7 +42,7 @@ pub record StaysOn {W : Type 0} (old new : TextWriter W) : Type 0 where
 -- since `start` this text was written to it
 abbrev pub Holds : {W : Type 0} (contents : W → Option (List ℕ)) (start : Option (List ℕ)) (text : List ℕ)
     → TextWriter W → Type 0
-Holds contents start text out = HasText start text out.fault (contents out.writer.now) out.block.items
+Holds contents start text out = HasText start text out.fault (contents out.writer.now) out.block
 
 -- these bytes were written to it
 pub record Puts {W : Type 0} (contents : W → Option (List ℕ)) (old new : TextWriter W) (bytes : List ℕ)

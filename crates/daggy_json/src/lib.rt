@@ -2,6 +2,7 @@
 //! it, and the dags themselves.
 #![tactic(auto)]
 
+mod block;
 pub mod documents;
 pub mod error;
 mod making;

@@ -12,14 +12,18 @@ use crate::text::TextWriter;
 use crate::values::write_weight;
 use daggy_base::index::{Direction, EdgeIndex, IndexType, NodeIndex};
 use daggy_base::store::Store;
-use daggy_guard::prefetch::touch_list;
+use daggy_guard::prefetch::PREFETCH_FROM;
+use daggy_guard::walk::step;
 use json::Token;
 use serde_json::Value;
 use std::alloc::AllocError;
 use std::io::Write;
 
-/// The number of nodes whose lists are walked along at once.
+/// The number of nodes whose lists are read side by side.
 const AHEAD: usize = 16;
+
+/// The greatest number of edges of each of these lists that are read.
+const MOST: usize = 32;
 
 // The entry of an edge slot.
 fn stream_entry<
@@ -146,20 +150,58 @@ fn stream_row<W: Write, Ix: IndexType, S: Store<Ix>>(
     out.token(Token::EndArray);
 }
 
-// Walks along the lists of the nodes from `from` up to `to`, a prefetch. The answer is always true.
+// Reads the lists of that direction of the nodes from `from` up to `to` side by side, a prefetch. The
+// answer is always true.
+//
+// A walk along one list waits for each edge before the next one. These reads wait only for those of
+// their own list.
+fn touch_side<Ix: IndexType, S: Store<Ix>>(
+    store: &S,
+    from: usize,
+    to: usize,
+    dir: Direction,
+) -> bool
+    requires { to ≤ Ix.greatest }
+    ensures { IsTrue result }
+{
+    store.invariant();
+    let (nodes, edges) = (store.node_slots(), store.edge_slots());
+    let mut cursors = [edges; AHEAD];
+    for i in from..to {
+        if let Some(cursor) = cursors.get_mut(i - from) {
+            *cursor = store.first_edge(NodeIndex::new(i), dir).index();
+        }
+    }
+    for _ in 0..MOST {
+        let mut left = false;
+        for k in 0..AHEAD {
+            if cursors[k] < edges {
+                left = true;
+                let mut e = EdgeIndex::new(cursors[k]);
+                if let Some((_, far)) = step(store, dir, &mut e) {
+                    if far.index() >= nodes {
+                        return false;
+                    }
+                }
+                cursors[k] = e.index();
+            }
+        }
+        if !left {
+            break;
+        }
+    }
+    true
+}
+
+// Reads the lists of the nodes from `from` up to `to`, if the graph is large: a prefetch. The answer
+// is always true.
 fn touch_lists<Ix: IndexType, S: Store<Ix>>(store: &S, from: usize, to: usize) -> bool
     requires { to ≤ Ix.greatest }
     ensures { IsTrue result }
 {
-    for i in from..to {
-        let n = NodeIndex::new(i);
-        if !touch_list(store, n, Direction::Outgoing, usize::MAX)
-            || !touch_list(store, n, Direction::Incoming, usize::MAX)
-        {
-            return false;
-        }
-    }
-    true
+    store.edge_slots() < PREFETCH_FROM
+        || (touch_side(store, from, to, Direction::Outgoing)
+            && touch_side(store, from, to, Direction::Incoming))
 }
 
 // The lists of the nodes, by ascending index.

@@ -1,22 +1,19 @@
 //! JSON text on its way to a writer, token by token.
-ghost use Rattle.std.specs.Prelude.{ℕ, List, Option, ◌≡◌, ◌<◌, ◌∷◌, ◌++◌, [], None, Some, false, true, MatchResult, decimal, IfErr, Err};
+ghost use Rattle.std.specs.Prelude.{ℕ, List, Option, ◌≡◌, ◌<◌, ◌∷◌, ◌++◌, [], None, Some, false, true, cond, MatchResult, decimal, IfErr, Err};
 ghost use Rattle.std.specs.Char.{digit_char};
 ghost use Rattle.std.specs.Io.KnownBytes.{Appends};
 ghost use Rattle.json.specs.Print.{begins as token_begins, ends as token_ends};
-ghost use Rattle.json.specs.Print.{escape_letter as letter_of, escape_byte, quoted, separator, token_text, IsPrintable};
+ghost use Rattle.json.specs.Print.{escape_letter as letter_of, escape_byte, quoted, token_text, IsPrintable};
 ghost use Rattle.json.specs.Reads.{token_of};
 ghost use Rattle.daggy_json.specs.Document.{whole};
 ghost use Rattle.daggy_json.specs.Streaming.{AppendsFront};
 ghost use Rattle.daggy_json.specs.Passing.{SendsBytes, HasFailed, StaysOn, Holds, Puts, Passes, Writes, AreTokensOf};
 ghost use Rattle.daggy_json.specs.declared.error.StreamError.TheVariants.{Memory};
 
+use crate::block::Block;
 use crate::error::StreamError;
-use arrayvec::ArrayVec;
 use json::Token;
 use std::io::{self, ErrorKind, Write};
-
-/// How many bytes are gathered before they are written.
-const BLOCK: usize = 4096;
 
 // Writes all the bytes. An interrupted write is tried again.
 fn put_all<W: Write>(writer: &mut W, bytes: &[u8]) -> io::Result<()>
@@ -104,7 +101,7 @@ fn hex_digit(digit: u8) -> u8
 #[derive(Drop)]
 pub(crate) struct TextWriter<'a, W> {
     writer: &'a mut W,
-    block: ArrayVec<u8, BLOCK>,
+    block: Block,
     after_value: bool,
     fault: Option<StreamError>,
 }
@@ -114,13 +111,13 @@ impl<'a, W: Write> TextWriter<'a, W> {
     pub(crate) fn new(writer: &'a mut W) -> TextWriter<'a, W>
         ensures writer { result.writer.now ≡ writer.old }
         ensures same_reference { result.writer.ghost_name ≡ writer.entry.ghost_name }
-        ensures nothing { result.block.items ≡ [] }
+        ensures nothing { result.block ≡ [] }
         ensures place { result.after_value ≡ false }
         ensures no_fault { result.fault ≡ None }
     {
         TextWriter {
             writer,
-            block: ArrayVec::new(),
+            block: Block::new(),
             after_value: false,
             fault: None,
         }
@@ -130,10 +127,10 @@ impl<'a, W: Write> TextWriter<'a, W> {
     fn flush(&mut self)
         ensures stays { StaysOn self.old self.new }
         ensures place { self.new.after_value ≡ self.old.after_value }
-        ensures nothing { self.new.block.items ≡ [] }
+        ensures nothing { self.new.block ≡ [] }
         ensures sends { SendsBytes self.old.fault self.new.fault
             (W.contents self.old.writer.now) (W.contents self.new.writer.now)
-            self.old.block.items }
+            self.old.block }
     {
         pass_on(self.writer, self.block.as_slice(), &mut self.fault);
         self.block.clear();
@@ -143,7 +140,7 @@ impl<'a, W: Write> TextWriter<'a, W> {
     fn put(&mut self, bytes: &[u8])
         ensures { Puts W.contents self.old self.new bytes.now }
     {
-        if self.block.try_extend_from_slice(bytes).is_err() {
+        if !self.block.extend_from_slice(bytes) {
             self.put_beyond(bytes);
         }
     }
@@ -152,7 +149,7 @@ impl<'a, W: Write> TextWriter<'a, W> {
     fn put_byte(&mut self, byte: u8)
         ensures { Puts W.contents self.old self.new (byte ∷ []) }
     {
-        if self.block.try_push(byte).is_err() {
+        if !self.block.push(byte) {
             self.put_beyond(&[byte]);
         }
     }
@@ -163,9 +160,28 @@ impl<'a, W: Write> TextWriter<'a, W> {
         ensures { Puts W.contents self.old self.new bytes.now }
     {
         self.flush();
-        if self.block.try_extend_from_slice(bytes).is_err() {
+        if !self.block.extend_from_slice(bytes) {
             pass_on(self.writer, bytes, &mut self.fault);
         }
+    }
+
+    // The digits of a number.
+    #[inline]
+    fn put_decimal(&mut self, n: u64)
+        ensures { Puts W.contents self.old self.new (decimal n) }
+    {
+        if !self.block.push_decimal(n) {
+            self.put_decimal_beyond(n);
+        }
+    }
+
+    // Writes the digits of a number that do not fit into the block.
+    #[cold]
+    fn put_decimal_beyond(&mut self, n: u64)
+        ensures { Puts W.contents self.old self.new (decimal n) }
+    {
+        let mut digits = itoa::Buffer::new();
+        self.put_beyond(digits.format(n).as_bytes());
     }
 
     // A byte of a string.
@@ -193,13 +209,12 @@ impl<'a, W: Write> TextWriter<'a, W> {
         self.put_byte(b'"');
     }
 
-    // The comma before a token, if a value came before it.
+    // The comma before what begins a value or a member, if a value came before it.
     #[inline(always)]
-    fn put_comma(&mut self, token: Token<'_>)
-        ensures { Puts W.contents self.old self.new
-            (separator self.old.after_value (token_of token.entry)) }
+    fn put_comma(&mut self)
+        ensures { Puts W.contents self.old self.new (cond self.old.after_value (44 ∷ []) []) }
     {
-        if self.after_value && begins(token) {
+        if self.after_value {
             self.put_byte(b',');
         }
     }
@@ -234,18 +249,29 @@ impl<'a, W: Write> TextWriter<'a, W> {
         requires { IsPrintable (token_of token) }
         ensures { Passes W.contents self.old self.new (token_of token.entry ∷ []) }
     {
-        self.put_comma(token);
+        if begins(token) {
+            self.put_comma();
+        }
         self.after_value = ends(token);
         self.put_token(token);
     }
 
-    /// Writes a whole number.
+    /// Writes a number that is not negative, after a comma if it needs one.
+    #[inline]
+    pub(crate) fn unsigned(&mut self, n: u64)
+        ensures { Writes W.contents self.old self.new (AreTokensOf (whole n)) }
+    {
+        self.put_comma();
+        self.after_value = true;
+        self.put_decimal(n);
+    }
+
+    /// Writes an index.
     #[inline]
     pub(crate) fn whole(&mut self, n: usize)
         ensures { Writes W.contents self.old self.new (AreTokensOf (whole n)) }
     {
-        let mut digits = itoa::Buffer::new();
-        self.token(Token::Number(digits.format(n)));
+        self.unsigned(n as u64);
     }
 
     /// Ends the text here, since memory ran out.

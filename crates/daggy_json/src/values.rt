@@ -11,13 +11,6 @@ use serde_json::{Map, Number, Value};
 use std::alloc::AllocError;
 use std::io::Write;
 
-fn write_positive<W: Write>(n: u64, out: &mut TextWriter<'_, W>)
-    ensures { Writes W.contents out.old out.new (AreTokensOf (number (unsigned n))) }
-{
-    let mut digits = itoa::Buffer::new();
-    out.token(Token::Number(digits.format(n)));
-}
-
 fn write_negative<W: Write>(n: i64, out: &mut TextWriter<'_, W>)
     requires { int_lt n (pos 0) ≡ true }
     ensures { Writes W.contents out.old out.new (AreTokensOf (number (negative n))) }
@@ -38,7 +31,7 @@ fn write_number<W: Write>(n: &Number, out: &mut TextWriter<'_, W>)
     ensures { Writes W.contents out.old out.new (AreTokensOf (number (number_view n.now))) }
 {
     if let Some(k) = n.as_u64() {
-        write_positive(k, out)
+        out.unsigned(k)
     } else if let Some(k) = n.as_i64() {
         write_negative(k, out)
     } else if let Some(x) = n.as_f64() {

@@ -4,4 +4,4 @@ use Rattle.daggy_dag.specs.Walks.{rest_of_walk}
 use Rattle.benchmarks.proofs.graph.children_sum.Given as goal
 
 abbrev pub decreases-down : goal.decreases-down
-decreases-down g l = length (rest_of_walk Outgoing l.dag.graph l.walker)
+decreases-down g l = length (rest_of_walk Outgoing l.dag.graph (g.Ix.IndexType.number l.walker))
