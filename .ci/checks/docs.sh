@@ -1,6 +1,6 @@
 #!/usr/bin/env bash
 # The first example of the README is the text of a test, each block of code in docs/USING.md and in the pages of the examples
-# stands in a file that the gate checks, and each run in the README, in docs/COMMANDS.md and in those pages prints what stands
+# stands in a file that the gate checks or in an example that examples.sh runs, and each run in the README, in docs/COMMANDS.md and in those pages prints what stands
 # there.
 set -u
 cd "$(dirname "$0")/../.." || exit 1
@@ -58,6 +58,9 @@ def stands_in(part, lines):
 gated = [line.split(":")[0].split()[0] for line in text_of("crates.txt").split("\n") if ":" in line.split("#")[0]]
 files = [path for name in gated for path in glob.glob(f"crates/{name}/src/**/*.rt", recursive=True)]
 sources = {path: code_of(text_of(path)) for path in files}
+for path in glob.glob("crates/daggy*/src/**/*.rt", recursive=True):
+    for example in re.findall(r"/// ```\n((?: *///[^\n]*\n)*?) */// ```\n", text_of(path)):
+        sources[example] = code_of(re.sub(r"^ */// ?", "", example, flags=re.M))
 page = text_of("docs/USING.md")
 if blocks(page, "text") != [text_of("crates/example_garden/stdout")]:
     complain("docs/USING.md: the program of .ci/use prints something else")

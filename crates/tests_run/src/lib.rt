@@ -1,4 +1,4 @@
-//! What is built on a dag, by example: commands, documents, and the examples of the docs.
+//! What is built on a dag, by example: commands, documents, and the recipes of `docs/USING.md`.
 #![tactic(auto)]
 
 #[cfg(test)]
@@ -6,6 +6,4 @@ mod commands;
 #[cfg(test)]
 mod documents;
 #[cfg(test)]
-mod examples;
-#[cfg(test)]
-mod examples_using;
+mod recipes;

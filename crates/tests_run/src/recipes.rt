@@ -1,5 +1,5 @@
-//! The recipes of `docs/USING.md` that are no example of a call. `.ci/checks/docs.sh` compares the
-//! texts.
+//! The recipes of `docs/USING.md` that are no example in the docs of a call. `.ci/checks/docs.sh`
+//! compares the texts.
 
 use daggy::dot::Dot;
 use daggy::json::write_json;
