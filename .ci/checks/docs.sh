@@ -1,6 +1,6 @@
 #!/usr/bin/env bash
 # The first example of the README is the text of a test, each block of code in docs/USING.md and in the pages of the examples
-# stands in a file that the gate checks or in an example that examples.sh runs, and each run in the README, in docs/COMMANDS.md and in those pages prints what stands
+# stands in a file that the gate checks or is an example that examples.sh runs, and each run in the README, in docs/COMMANDS.md and in those pages prints what stands
 # there.
 set -u
 cd "$(dirname "$0")/../.." || exit 1
@@ -30,6 +30,11 @@ def text_of(path):
 
 def blocks(text, language):
     return re.findall(rf"^```{language}\n(.*?)^```$", text, re.M | re.S)
+
+
+# `.ci/examples` makes tests of the recipes.
+def without_recipes(text):
+    return re.sub(r"<!-- before\n.*?-->\n```rust\n.*?^```$", "", text, flags=re.M | re.S)
 
 
 readme = text_of("README.md")
@@ -65,7 +70,7 @@ page = text_of("docs/USING.md")
 if blocks(page, "text") != [text_of("crates/example_garden/stdout")]:
     complain("docs/USING.md: the program of .ci/use prints something else")
 pages = {"docs/SHEET.md": "example_sheet", "docs/PACKAGES.md": "example_packages", "docs/BUILD.md": "example_build"}
-using = [(path, block) for path in ["docs/USING.md", *pages] for block in blocks(text_of(path), "rust")]
+using = [(path, block) for path in ["docs/USING.md", *pages] for block in blocks(without_recipes(text_of(path)), "rust")]
 for path, block in using:
     parts = [code_of(part) for part in re.split(r"^ *// \.\.$", block, flags=re.M)]
     if not any(all(stands_in(part, lines) for part in parts if part) for lines in sources.values()):

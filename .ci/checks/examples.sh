@@ -1,5 +1,5 @@
 #!/usr/bin/env bash
-# The examples in the docs of the library pass as tests. Those of README and docs/: docs.sh.
+# The examples in the docs of the library and the recipes of docs/USING.md pass as tests. Other blocks of code: docs.sh.
 set -u
 cd "$(dirname "$0")/../.." || exit 1
 room=$(mktemp -d)

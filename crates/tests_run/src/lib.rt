@@ -1,9 +1,7 @@
-//! What is built on a dag, by example: commands, documents, and the recipes of `docs/USING.md`.
+//! What is built on a dag, by example: commands and documents.
 #![tactic(auto)]
 
 #[cfg(test)]
 mod commands;
 #[cfg(test)]
 mod documents;
-#[cfg(test)]
-mod recipes;
