@@ -214,6 +214,7 @@ fn all_added<Ix: IndexType, S: Store<Ix, NodeWeight = u32, EdgeWeight = u32>>(
 ) {
     match dag.add_edges(items(rt, alloc, edges)) {
         Ok(added) => {
+            same(rt, added.size_hint(), (edges.len(), Some(edges.len())));
             let mut indices = Vec::new(alloc);
             for e in added {
                 made(rt, indices.push(e.index()));
