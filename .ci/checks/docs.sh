@@ -1,11 +1,13 @@
 #!/usr/bin/env bash
-# The first example of the README is the text of a test, each block of code in docs/USING.md and in the pages of the examples
-# stands in a file that the gate checks or is an example that examples.sh runs, and each run in the README, in docs/COMMANDS.md and in those pages prints what stands
-# there.
+# The first example of the README is the text of a test, each block of code in docs/USING.md and in the pages of the
+# examples stands in a file that the gate checks or is an example that examples.sh runs, and each run in the README, in
+# docs/COMMANDS.md and in those pages prints what stands there.
 set -u
 cd "$(dirname "$0")/../.." || exit 1
 exec python3 - <<'PYTHON'
 import glob
+import importlib.machinery
+import importlib.util
 import os
 import re
 import shlex
@@ -32,10 +34,11 @@ def blocks(text, language):
     return re.findall(rf"^```{language}\n(.*?)^```$", text, re.M | re.S)
 
 
-# `.ci/examples` makes tests of the recipes.
-def without_recipes(text):
-    return re.sub(r"<!-- before\n.*?-->\n```rust\n.*?^```$", "", text, flags=re.M | re.S)
-
+# What `.ci/examples` makes tests of.
+sys.dont_write_bytecode = True
+loader = importlib.machinery.SourceFileLoader("examples", os.path.abspath(".ci/examples"))
+made = importlib.util.module_from_spec(importlib.util.spec_from_loader("examples", loader))
+loader.exec_module(made)
 
 readme = text_of("README.md")
 first = blocks(readme, "rust")[0]
@@ -63,14 +66,13 @@ def stands_in(part, lines):
 gated = [line.split(":")[0].split()[0] for line in text_of("crates.txt").split("\n") if ":" in line.split("#")[0]]
 files = [path for name in gated for path in glob.glob(f"crates/{name}/src/**/*.rt", recursive=True)]
 sources = {path: code_of(text_of(path)) for path in files}
-for path in glob.glob("crates/daggy*/src/**/*.rt", recursive=True):
-    for example in re.findall(r"/// ```\n((?: *///[^\n]*\n)*?) */// ```\n", text_of(path)):
-        sources[example] = code_of(re.sub(r"^ */// ?", "", example, flags=re.M))
+for path, item, lines in made.examples():
+    sources[f"{path}, {item}, {len(sources)}"] = code_of("\n".join(lines))
 page = text_of("docs/USING.md")
 if blocks(page, "text") != [text_of("crates/example_garden/stdout")]:
     complain("docs/USING.md: the program of .ci/use prints something else")
 pages = {"docs/SHEET.md": "example_sheet", "docs/PACKAGES.md": "example_packages", "docs/BUILD.md": "example_build"}
-using = [(path, block) for path in ["docs/USING.md", *pages] for block in blocks(without_recipes(text_of(path)), "rust")]
+using = [(path, block) for path in ["docs/USING.md", *pages] for block in blocks(made.RECIPE.sub("", text_of(path)), "rust")]
 for path, block in using:
     parts = [code_of(part) for part in re.split(r"^ *// \.\.$", block, flags=re.M)]
     if not any(all(stands_in(part, lines) for part in parts if part) for lines in sources.values()):
