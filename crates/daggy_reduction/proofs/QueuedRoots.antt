@@ -1,14 +1,15 @@
 -- Queueing the roots one by one, and what they reach.
 use Rattle.std.proofs.Common.{◌≡◌, ℕ, ◌+◌, ◌<◌, ◌≤◌, Bool, true, false, ◌⊎◌, ◌↔◌, inl, inr, List, [], ◌∷◌, ◌++◌, length}
 use Rattle.std.proofs.Common.{get_or, take, set, refl, sym, ap, subst, ◌∙◌, arith, Contains}
-use Rattle.std.proofs.lemmas.List.{take_more, take_more_set, length-take-le, take_all}
+use Rattle.std.proofs.lemmas.List.{append-nil, take_more, take_more_set, length-take-le, take_all}
 use Rattle.std.proofs.lemmas.Bool.{false≢true}
 use Rattle.daggy_base.specs.Graph.{Graph, HasNode, node_bound}
 use Rattle.daggy_base.specs.Reduction.{IsBelow}
 use Rattle.daggy_base.proofs.Lists.{Mem, Unique, mem_left, mem_right, mem_cases, mem_contains, contains_mem}
-use Rattle.daggy_base.proofs.Lists.{fewer_than}
+use Rattle.daggy_base.proofs.Lists.{fewer_than, unique_from_distinct}
 use Rattle.daggy_base.proofs.Lists.{unique_append}
 use Rattle.daggy_base.proofs.OutEdgesRead.{below_bound}
+use Rattle.daggy_order.proofs.BoundedSearch.{reached_exists}
 use Rattle.daggy_search.specs.Work.{Work, IsSized, IsCleared}
 use Rattle.daggy_search.proofs.Sized.{sized_entered, sized_put_node}
 use Rattle.daggy_search.proofs.SearchProgress.{marked_within, set_marked}
@@ -229,6 +230,32 @@ all_rooted {N} {E} {roots} {now} s past =
           )
           ),
     )
+
+-- a queue of as many nodes as there are indices holds all nodes
+pub closure_whole : {N E : Type 0} (g : Graph N E) (marks : List Bool) (queue : List ℕ)
+    → IsQueue g marks queue → length queue ≡ node_bound g → IsClosure g queue queue
+closure_whole g marks queue q whole =
+    record {
+      exact = λ n. (λ c. (n, c, ([], q.exist n c, refl)), λ r. there n (reached_exists g r.0 n r.2));
+      once = q.once;
+      later = [];
+      begins = sym (append-nil queue);
+    }
+  where
+    there : (n : ℕ) → HasNode g n → Contains queue n
+    there n exists = go (get_or marks n false) refl
+      where
+        go : (b : Bool) → b ≡ get_or marks n false → Contains queue n
+        go true at = (q.marked n).0 (sym at)
+        go false at =
+            let absent : Mem n queue → ⊥ = λ m. false≢true (at ∙ (q.marked n).1 (mem_contains queue n m)) in
+            let low : (x : ℕ) → Mem x (n ∷ queue) → x < node_bound g = λ x m.
+            elim m [
+              | inl e ↦ omega (arith, e, below_bound g.nodes n exists)
+              | inr b ↦ below_bound g.nodes x (q.exist x (mem_contains queue x b))
+            ] in
+            let few = fewer_than (n ∷ queue) (node_bound g) (absent, unique_from_distinct queue q.once) low in
+            absurd (omega (arith, few, whole))
 
 -- what the existing roots reach is what is below them
 pub closure_below : {N E : Type 0} (g : Graph N E) (roots first closure : List ℕ)

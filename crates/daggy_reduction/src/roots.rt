@@ -71,6 +71,10 @@ pub(crate) fn queue_below<Ix: IndexType, S: EdgeSource<Ix>>(
     if len == 0 {
         return 0;
     }
+    // All nodes are roots, so there are no others to find.
+    if len == source.node_bound() {
+        return len;
+    }
     bfs(source, work, len)
 }
 
