@@ -8,7 +8,8 @@ pub mod elements;
 pub mod extension;
 pub mod guard;
 pub mod matrix;
-mod packed;
+#[doc(hidden)]
+pub mod packed;
 pub mod parents;
 pub mod paths;
 #[doc(hidden)]

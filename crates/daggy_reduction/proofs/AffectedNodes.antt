@@ -7,13 +7,9 @@ use Rattle.daggy_base.specs.Ordered.{place}
 use Rattle.daggy_base.specs.Reduction.{IsBelow}
 use Rattle.daggy_base.specs.WellFormed.{AreDistinct, IsWellFormed}
 use Rattle.daggy_base.proofs.Lists.{Unique, mem_contains, contains_mem, unique_from_distinct, distinct_from_unique}
-use Rattle.daggy_order.proofs.BoundedSearch.{reached_exists}
 use Rattle.daggy_order.proofs.MovedNodes.{unique_same}
 use Rattle.daggy_search.proofs.Entries.{map_sorted}
 use Rattle.daggy_reduction.specs.Descendants.{IsSortedPart, IsChildOfAny, IsDescendantOfAny}
-
-pub below_exists : {N E : Type 0} (g : Graph N E) (given : List ℕ) (n : ℕ) → IsBelow g given n → HasNode g n
-below_exists g given n b = reached_exists g b.0 n b.3
 
 module _ {X : Type 0} (number : X → ℕ) (order : List ℕ) {Part : ℕ → Type 0} (queue : List ℕ)
     (part : (n : ℕ) → Contains queue n ↔ Part n) (once : AreDistinct queue) (items sorted : List X)

@@ -91,7 +91,6 @@ module _ {N E : Type 0} (g : Graph N E) where
           let s = first_step w v b to in
           let P : ℕ → Type 0 = λ z. Reaches g z w in
           let vw : Reaches g v w = subst P e xw in
-          let q = reaches_on g v w v vw b in
           let t = first_step v w vw (λ k. to (sym k)) in
           let u2 = reaches_on g t.0 w v t.3 b in
           let Q : ℕ → Type 0 = λ z. AreJoined g u z in

@@ -342,7 +342,6 @@ module _ (old new : Work) (n : ℕ) (first : old.ready ≡ n ∷ new.ready)
           )),
           λ all. absurd (
               let i = u.idle.1 (λ m h. set_now m (all m h)) in
-              let P : List ℕ → Type 0 = λ z. Mem n z in
               let M : List ℕ → Type 0 = λ z. Contains z n in
               contains_mem [] n (subst M i.0 was_ready)
               ),

@@ -96,7 +96,6 @@ module _ {N E : Type 0} {end : ℕ} {g : Graph N E} (w : IsWellFormed end g) {or
       let P : List ℕ → Type 0 = λ z. place z n < place z v in
       let low : place (before ++ n ∷ behind) n < place (before ++ n ∷ behind) v = subst P split (ord.sorted n v j) in
       let at = place_right before (n ∷ behind) n not_before in
-      let zero_there : place (n ∷ behind) n ≡ 0 = place_same n n behind refl in
       elim (mem_cases before (n ∷ behind) v (subst M split (contains_mem order v ((ord.exact v).1 (w.children j.0 _ j.2))))) [
         | inl a ↦ absurd (omega (arith, low, at, place_left before (n ∷ behind) v a))
         | inr b ↦ elim b [

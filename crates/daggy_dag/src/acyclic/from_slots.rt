@@ -12,7 +12,7 @@ use crate::acyclic::Acyclic;
 use daggy_base::error::SlotsError;
 use daggy_base::index::{EdgeIndex, IndexType, NodeIndex};
 use daggy_base::store::Store;
-use daggy_order::order::Order;
+use daggy_guard::packed::sorted_order;
 use daggy_search::Scratch;
 use std::alloc::Global;
 
@@ -56,7 +56,7 @@ where
         let Ok(()) = scratch.reserve(store.node_slots(), 0) else {
             return Err(SlotsError::Memory);
         };
-        match Order::sorted(alloc, &mut store, &mut scratch) {
+        match sorted_order(alloc, &mut store, &mut scratch) {
             Ok(Some(order)) => Ok(Acyclic::from_parts(store, order, scratch)),
             Ok(None) => Err(SlotsError::Cycle),
             Err(_) => Err(SlotsError::Memory),

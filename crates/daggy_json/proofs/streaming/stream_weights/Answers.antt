@@ -25,7 +25,6 @@ nodes-preserved g c =
     let slots = (g.S.EdgeSource.graph c.args.store.now).nodes in
     let node_as = WritesAs g.F.Fn c.args.fn_node.now in
     let before = map (λ p. p.1) (numbered 0 (take c.nodes.i slots)) in
-    let later = map (λ p. p.1) (numbered 0 (take (c.nodes.i + 1) slots)) in
     record {
       within = omega (arith, c.nodes-test.true);
       written = elim c.match-node_weight.branch [

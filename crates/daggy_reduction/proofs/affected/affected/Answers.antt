@@ -4,7 +4,8 @@ use Rattle.daggy_search.proofs.Entries.{come_back}
 use Rattle.daggy_reduction.specs.Descendants.{IsSortedPart}
 use Rattle.daggy_base.specs.Ordered.{place}
 use Rattle.daggy_base.specs.Reduction.{IsBelow}
-use Rattle.daggy_reduction.proofs.AffectedNodes.{below_exists, part_sorted}
+use Rattle.daggy_reduction.proofs.AffectedNodes.{part_sorted}
+use Rattle.daggy_reduction.proofs.SweptNodes.{below_exists}
 use Rattle.daggy_reduction.proofs.affected.affected.Given.{Over}
 use Rattle.daggy_reduction.proofs.affected.affected.Goals.{After-sort_by_place}
 use Rattle.daggy_reduction.proofs.affected.affected.Goals as goal

@@ -88,7 +88,6 @@ pub returns-clause-spanned : goal.returns-clause-spanned
 returns-clause-spanned g c =
     let count = c.enter_below-count.result in
     let below = c.enter_below-count.new.work.cursors in
-    let graph = g.S.EdgeSource.graph c.args.source.now in
     let roots = map g.Ix.IndexType.number c.args.roots.now in
     let past : length (take count below) ≤ c.nodes.k =
     omega (arith, c.nodes-test.false, long g (goal.at.returns-clause-spanned g c).After-enter_below-count) in

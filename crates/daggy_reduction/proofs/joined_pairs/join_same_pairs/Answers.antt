@@ -13,7 +13,6 @@ returns-then-not-joins_all-clause-decided g c = (
 pub returns-clause-decided : goal.returns-clause-decided
 returns-clause-decided g c =
     let a = g.A.EdgeSource.graph c.args.a.now in
-    let b = g.B.EdgeSource.graph c.args.b.now in
     let back = c.joins_all-2.result in
     let P : Graph g.row.A-NodeWeight.Denot g.row.A-EdgeWeight.Denot → Type 0 = λ z.
     IsTrue back ↔ JoinsAll (g.B.EdgeSource.graph c.joins_all.new.b) z in

@@ -25,7 +25,6 @@ returns-clause-busy g c =
     let graph = c.args.dag.now.graph in
     let made = c.into_assignment.result in
     let done = c.in_ok-done.done in
-    let count = c.get.result in
     let D : _ → Type 0 = λ z. AreKeptBusy graph z.items made.starts.items made.workers.items (non_zero_usize_get c.args.workers) in
     let S : List ℕ → Type 0 = λ z.
     AreKeptBusy graph c.in_ok-plan.plan.durations.items z made.workers.items (non_zero_usize_get c.args.workers) in

@@ -269,9 +269,6 @@ pub done-requires-clause-out : goal.done-requires-clause-out
 done-requires-clause-out g c =
     let graph = c.args.dag.now.graph in
     let plan = c.args.plan.now in
-    let end = g.Ix.IndexType.greatest in
-    let W : Graph _ _ → Type 0 = λ z. IsWellFormed end z in
-    let w = subst W c.graph.ensures.graph c.node_bound.ensures.well_formed in
     let stuck = c.in_ok-begin_next.ensures.stuck (ap Ok c.if-branch.false) in
     let n = g.Ix.IndexType.number c.in-Some-2.n in
     let M : _ → Type 0 = λ z. MatchOption z ((c.begin_next.new.self.running ≡ [])
@@ -290,9 +287,6 @@ pub events-smaller : goal.events-smaller
 events-smaller g c =
     let graph = c.args.dag.now.graph in
     let plan = c.args.plan.now in
-    let end = g.Ix.IndexType.greatest in
-    let W : Graph _ _ → Type 0 = λ z. IsWellFormed end z in
-    let w = subst W c.graph.ensures.graph c.node_bound.ensures.well_formed in
     let stuck = c.in_ok-begin_next.ensures.stuck (ap Ok c.if-branch.false) in
     let n = g.Ix.IndexType.number c.in-Some-2.n in
     let M : _ → Type 0 = λ z. MatchOption z ((c.begin_next.new.self.running ≡ [])

@@ -116,7 +116,6 @@ order-preserved g c =
     let first = c.in-Some-take_first.first in
     let n = number first.1 in
     let items = c.order.order.items in
-    let work = c.ready.ready in
     let same = c.in_default.ensures.unchanged refl in
     let none = c.in_default.ensures.none.0 refl in
     let IsKey = IsKeyOf g.Ix.IndexType.of (goal.F-post g) c.args.key graph in

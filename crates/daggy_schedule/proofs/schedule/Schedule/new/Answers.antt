@@ -11,9 +11,6 @@ returns-clause-finishes g c =
     let early = c.in_ok-early.early in
     let D : List ℕ → Type 0 = λ d. AreNoted end graph d early.starts.items early.parents.items early.finishes.items in
     let noted = subst D c.as_slice.ensures.value c.in_ok-early.ensures.noted in
-    let E : List ℕ → Type 0 = λ d. AreEarliest graph d (λ n. get_or early.starts.items n 0) in
-    let earliest = subst E c.as_slice.ensures.value c.in_ok-early.ensures.earliest in
-    let last = c.in_ok-early.ensures.last in
     λ n h. sym (noted.takes n h)
 
 pub returns-clause-makespan : goal.returns-clause-makespan

@@ -26,16 +26,7 @@ nodes-init g c =
 pub bounds-order-k : goal.bounds-order-k
 bounds-order-k g c =
     let number = g.Ix.IndexType.number in
-    let graph = c.args.dag.now.graph in
-    let S = c.graph-store.ensures.graph in
-    let W : Graph _ _ → Type 0 = λ z. IsWellFormed g.Ix.IndexType.greatest z in
-    let w = subst W S c.node_bound.ensures.well_formed in
-    let order = map number c.args.order.now in
     let k = c.nodes.k - 1 in
-    let starts = c.args.early.now.starts.items in
-    let slack = c.nodes.slack.items in
-    let makespan = c.args.early.now.makespan in
-    let d = c.args.durations.now in
     let s = c.nodes.invariant in
     let low : k < length c.args.order.now = omega (arith, c.nodes-test.true, s.within) in
     low
@@ -60,18 +51,8 @@ offset_bounds-order-k g c =
 pub latest_finish-latest-requires-clause-slack : goal.latest_finish-latest-requires-clause-slack
 latest_finish-latest-requires-clause-slack g c =
     let number = g.Ix.IndexType.number in
-    let graph = c.args.dag.now.graph in
     let S = c.graph-store.ensures.graph in
-    let W : Graph _ _ → Type 0 = λ z. IsWellFormed g.Ix.IndexType.greatest z in
-    let w = subst W S c.node_bound.ensures.well_formed in
-    let order = map number c.args.order.now in
-    let k = c.nodes.k - 1 in
-    let starts = c.args.early.now.starts.items in
-    let slack = c.nodes.slack.items in
-    let makespan = c.args.early.now.makespan in
-    let d = c.args.durations.now in
     let s = c.nodes.invariant in
-    let low : k < length c.args.order.now = omega (arith, c.nodes-test.true, s.within) in
     omega (arith, s.sized, ap node_bound S, c.as_slice-in-nodes.ensures.len)
 
 pub latest_finish-latest-requires-clause-low : goal.latest_finish-latest-requires-clause-low
@@ -91,8 +72,6 @@ latest_finish-latest-requires-clause-low g c =
     let low : k < length c.args.order.now = omega (arith, c.nodes-test.true, s.within) in
     let n = number c.index-order-k.result in
     let split = parted_order number c.args.order.now k c.index-order-k.result low c.index-order-k.is in
-    let exists = order_exists w c.requires.ordered (take k order) n (drop (k + 1) order) split in
-    let bound : n < node_bound graph = below_bound graph.nodes n exists in
     let one : k + 1 ≡ c.nodes.k = omega (arith, c.nodes-test.true) in
     let D : ℕ → Type 0 = λ z. Slackening graph d (later_by starts slack) makespan (drop z order) in
     let slackening : D (k + 1) = subst D (sym one) s.slackening in
@@ -112,19 +91,12 @@ index-requires-in-nodes g c =
     let w = subst W S c.node_bound.ensures.well_formed in
     let order = map number c.args.order.now in
     let k = c.nodes.k - 1 in
-    let starts = c.args.early.now.starts.items in
-    let slack = c.nodes.slack.items in
-    let makespan = c.args.early.now.makespan in
-    let d = c.args.durations.now in
     let s = c.nodes.invariant in
     let low : k < length c.args.order.now = omega (arith, c.nodes-test.true, s.within) in
     let n = number c.index-order-k.result in
     let split = parted_order number c.args.order.now k c.index-order-k.result low c.index-order-k.is in
     let exists = order_exists w c.requires.ordered (take k order) n (drop (k + 1) order) split in
     let bound : n < node_bound graph = below_bound graph.nodes n exists in
-    let one : k + 1 ≡ c.nodes.k = omega (arith, c.nodes-test.true) in
-    let D : ℕ → Type 0 = λ z. Slackening graph d (later_by starts slack) makespan (drop z order) in
-    let slackening : D (k + 1) = subst D (sym one) s.slackening in
     omega (arith, bound, c.requires.finishes, c.index.ensures.value)
 
 pub overflow_sub-latest : goal.overflow_sub-latest
@@ -181,19 +153,12 @@ index_mut-requires g c =
     let w = subst W S c.node_bound.ensures.well_formed in
     let order = map number c.args.order.now in
     let k = c.nodes.k - 1 in
-    let starts = c.args.early.now.starts.items in
-    let slack = c.nodes.slack.items in
-    let makespan = c.args.early.now.makespan in
-    let d = c.args.durations.now in
     let s = c.nodes.invariant in
     let low : k < length c.args.order.now = omega (arith, c.nodes-test.true, s.within) in
     let n = number c.index-order-k.result in
     let split = parted_order number c.args.order.now k c.index-order-k.result low c.index-order-k.is in
     let exists = order_exists w c.requires.ordered (take k order) n (drop (k + 1) order) split in
     let bound : n < node_bound graph = below_bound graph.nodes n exists in
-    let one : k + 1 ≡ c.nodes.k = omega (arith, c.nodes-test.true) in
-    let D : ℕ → Type 0 = λ z. Slackening graph d (later_by starts slack) makespan (drop z order) in
-    let slackening : D (k + 1) = subst D (sym one) s.slackening in
     omega (arith, bound, s.sized, c.index-in-nodes-2.ensures.value)
 
 pub nodes-preserved : goal.nodes-preserved

@@ -25,7 +25,6 @@ returns-then-index-clause-steps g c =
     sym child ∙ (sym c.index.ensures.value ∙ (c.if-index.true ∙ (c.index-in-Some.ensures.value
     ∙ ap number c.along.invariant.child))) in
     let weight = weight_there same e x here c.in_ok-weight.weight.now c.in_ok-weight.ensures in
-    let item : ℕ × Edge g.row.E.Denot = (e, x) in
     sym c.self.view_is
     ∙ (c.along.invariant.same
     ∙ (taken end graph c.invariant.ensures.well_formed v e x here next next_is leads
