@@ -6,8 +6,8 @@ use Rattle.daggy_base.proofs.PathsWithNode.{bound_low}
 use Rattle.daggy_dag.proofs.OrderKept.{stays_so}
 use Rattle.daggy_dag.proofs.acyclic.Acyclic.from_slots.Goals as goal
 
-pub sorted-requires : goal.sorted-requires
-sorted-requires g c =
+pub sorted_order-requires : goal.sorted_order-requires
+sorted_order-requires g c =
     omega (
       arith,
       bound_low (g.S.EdgeSource.graph c.in-Ok.store).nodes,
@@ -27,11 +27,11 @@ from_parts-requires g c =
     let low = bound_low (g.S.EdgeSource.graph c.in-Ok.store).nodes in
     let fits : node_bound (g.S.EdgeSource.graph c.in-Ok.store) ≤ c.reserve.new.self.nodes =
     omega (arith, low, c.node_slots.ensures, c.in-Ok-reserve.ensures.ok.0) in
-    let capacity : c.sorted.new.scratch.nodes ≡ c.reserve.new.self.nodes =
-    ap (λ (z : Room _). z.nodes) c.sorted.ensures.same_capacity in
+    let capacity : c.sorted_order.new.scratch.nodes ≡ c.reserve.new.self.nodes =
+    ap (λ (z : Room _). z.nodes) c.sorted_order.ensures.same_capacity in
     let ordered =
     found _ c.in-Ok-Some.field-0 c.in-Ok-Some.order c.in-Ok-Some.field-0-is c.in-Ok-Some.ensures.ordered in
-    stays_so c.in-Ok-Some.order c.sorted.new.scratch.nodes _ _ c.sorted.ensures.same
+    stays_so c.in-Ok-Some.order c.sorted_order.new.scratch.nodes _ _ c.sorted_order.ensures.same
     (ordered, omega (arith, fits, capacity))
 
 pub returns-in-Ok-None-clause-cycle : goal.returns-in-Ok-None-clause-cycle
