@@ -262,6 +262,8 @@ module _ {N E : Type 0} (end : ℕ) (g : Graph N E) (w : IsWellFormed end g) {n 
         → Raising end g n level levels₀ parents₀ levels' parents' next
     raising_on here {v} {next} look {levels'} {parents'} raised =
         let joined : AreJoined g n v = child_joined end g w n s.passed e s.cursor here v next look in
+        let low = child_low here v next look in
+        let low_n : n < node_bound g = below_bound g.nodes n exists in
         let inside : AreWithin n v parents = record {
           child = omega (arith, s.parents_fit);
           node = omega (arith, s.parents_fit);
