@@ -1,5 +1,5 @@
 //! A dag whose index type has no index left.
-use super::support::{made, same};
+use crate::support::{made, same};
 use daggy_named::error::{AddError, DependError};
 use daggy_named::named::Named;
 

@@ -1,5 +1,6 @@
 //! Walks over graphs that were worked out by hand.
-use super::support::{graph_of, holds, node, walks};
+use super::support::{graph_of, walks};
+use crate::support::{holds, node};
 use daggy_base::index::Direction::{Incoming, Outgoing};
 use daggy_base::store::Store;
 use daggy_graph::graph::DiGraph;

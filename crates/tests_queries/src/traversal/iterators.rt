@@ -1,5 +1,6 @@
 //! Walks as iterators.
-use super::support::{graph_of, lists, made, node, same};
+use super::support::graph_of;
+use crate::support::{lists, made, node, same};
 use daggy_base::index::Direction::{Incoming, Outgoing};
 use daggy_base::index::NodeIndex;
 use daggy_base::store::Store;

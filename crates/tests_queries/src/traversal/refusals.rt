@@ -1,6 +1,6 @@
 //! Calls while memory is refused once. `rt try --test --fail-alloc N` refuses the Nth allocation: a
 //! call that is refused says so, and succeeds when it is made again.
-use super::support::{made, node, same};
+use crate::support::{made, node, same};
 use daggy_base::index::{Direction, NodeIndex};
 use daggy_base::store::Store;
 use daggy_graph::graph::DiGraph;

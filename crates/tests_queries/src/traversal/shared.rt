@@ -1,5 +1,5 @@
 //! Walks over a dag that others hold meanwhile.
-use super::support::{holds, made, node};
+use crate::support::{holds, made, node};
 use daggy_base::index::Direction;
 use daggy_base::store::Store;
 use daggy_dag::acyclic::Acyclic;

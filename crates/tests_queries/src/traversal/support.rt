@@ -1,48 +1,16 @@
-//! The assertions, the graphs, and whole walks over them.
-//!
-//! Each `assert_eq!` costs a proof, so it is written here once, and tests call it. What is
-//! generic over the store serves both kinds.
-ghost use Rattle.std.specs.Prelude.{◌≡◌, IsTrue, Ok};
+//! The graphs, and whole walks over them. What is generic over the store serves both kinds.
 ghost use Rattle.daggy_traversal.specs.Breadth.{IsBreadthFirst};
 ghost use Rattle.daggy_traversal.specs.Depth.{IsDepthFirst};
 ghost use Rattle.daggy_traversal.specs.Postorder.{IsPostorder};
 
+use crate::support::{lists, made, node};
 use daggy_base::index::{Direction, NodeIndex};
 use daggy_base::store::Store;
 use daggy_traversal::bfs::Bfs;
 use daggy_traversal::dfs::Dfs;
 use daggy_traversal::post_order::DfsPostOrder;
 use std::alloc::{AllocError, Global};
-use std::fmt::Debug;
 use std::process::Abort;
-
-/// Asserts that what was found is what is wanted.
-pub fn same<T: PartialEq + Debug + Drop>(rt: &impl Abort, found: T, wanted: T) {
-    assert_eq!(rt; found, wanted);
-}
-
-/// Asserts a fact, which calls after it may rest on.
-pub fn holds(rt: &impl Abort, fact: bool)
-    ensures { IsTrue fact }
-{
-    assert!(rt; fact);
-}
-
-/// Asserts that a call succeeded, and returns its value.
-pub fn made<T: Drop, E: Drop>(rt: &impl Abort, answer: Result<T, E>) -> T
-    ensures { answer ≡ Ok result }
-{
-    match answer {
-        Ok(x) => x,
-        Err(_) => panic!(rt; "the call was refused"),
-    }
-}
-
-/// The index of a node.
-pub fn node(rt: &impl Abort, x: usize) -> NodeIndex {
-    assert!(rt; x <= NodeIndex::<u32>::end().index());
-    NodeIndex::new(x)
-}
 
 /// A graph with this many nodes, and these edges. A later edge comes earlier in its lists.
 pub fn graph_of<S: Store<u32, NodeWeight = (), EdgeWeight = ()>>(
@@ -163,14 +131,6 @@ pub fn postorder<S: Store<u32, NodeWeight = (), EdgeWeight = ()>>(
         }
     }
     Ok(given)
-}
-
-/// Asserts that a list of nodes has these indices.
-pub fn lists(rt: &impl Abort, found: &[NodeIndex], wanted: &[usize]) {
-    same(rt, found.len(), wanted.len());
-    for (n, index) in found.iter().zip(wanted) {
-        same(rt, n.index(), *index);
-    }
 }
 
 /// Asserts what the three walks from a node yield.

@@ -1,7 +1,8 @@
 //! Dags that are worked off by keys, by two workers at a time.
 ghost use Rattle.daggy_schedule.specs.ByKey.{IsUnderWayByKey};
 
-use super::support::{Plain, dag_of, holds, lists, made, node};
+use super::support::{Plain, dag_of};
+use crate::support::{holds, lists, made, node};
 use daggy_base::index::NodeIndex;
 use daggy_base::store::Store;
 use daggy_graph::graph::DiGraph;

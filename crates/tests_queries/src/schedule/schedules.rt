@@ -2,7 +2,8 @@
 ghost use Rattle.std.specs.Prelude.{◌≤◌, length};
 ghost use Rattle.daggy_base.specs.Graph.{node_bound};
 
-use super::support::{Plain, dag_of, holds, lists, made, node, same, times};
+use super::support::{Plain, dag_of, times};
+use crate::support::{holds, lists, made, node, same};
 use daggy_base::source::EdgeSource;
 use daggy_base::store::Store;
 use daggy_graph::graph::DiGraph;

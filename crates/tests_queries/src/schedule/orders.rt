@@ -1,5 +1,6 @@
 //! Orders by keys that were worked out by hand.
-use super::support::{Plain, dag_of, holds, lists, made, node};
+use super::support::{Plain, dag_of};
+use crate::support::{holds, lists, made, node};
 use daggy_base::store::Store;
 use daggy_graph::graph::DiGraph;
 use daggy_schedule::order_by::topological_order_by;

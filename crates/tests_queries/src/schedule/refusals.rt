@@ -1,6 +1,7 @@
 //! Calls while memory is refused once. `rt try --test --fail-alloc N` refuses the Nth allocation: a
 //! call that is refused says so, and succeeds when it is made again.
-use super::support::{Plain, lists, made, node, same};
+use super::support::Plain;
+use crate::support::{lists, made, node, same};
 use daggy_base::index::NodeIndex;
 use daggy_base::store::Store;
 use daggy_graph::graph::DiGraph;

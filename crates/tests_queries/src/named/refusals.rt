@@ -1,6 +1,7 @@
 //! Calls while memory is refused once. `rt try --test --fail-alloc N` refuses the Nth allocation: a
 //! call that is refused says so, changes nothing, and succeeds when it is made again.
-use super::support::{goes, made, same};
+use super::support::goes;
+use crate::support::{made, same};
 use daggy_base::index::NodeIndex;
 use daggy_named::error::{AddError, DependError};
 use daggy_named::named::Named;

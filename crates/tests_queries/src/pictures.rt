@@ -1,5 +1,6 @@
 //! The text of a whole picture, written out.
 
+use crate::support::node;
 use daggy_base::index::{EdgeIndex, NodeIndex};
 use daggy_base::source::EdgeSource;
 use daggy_base::store::Store;
@@ -13,14 +14,8 @@ use std::test::Fail;
 
 type Text = &'static str;
 
-// The index of a node.
-fn node(rt: &impl Abort, x: usize) -> NodeIndex {
-    assert!(rt; x <= NodeIndex::<u32>::end().index());
-    NodeIndex::new(x)
-}
-
 // A graph with these weights, and these edges by the numbers of their ends.
-fn made<N: Copy + Drop, E: Copy + Drop, S: Store<u32, NodeWeight = N, EdgeWeight = E>>(
+fn graph_of<N: Copy + Drop, E: Copy + Drop, S: Store<u32, NodeWeight = N, EdgeWeight = E>>(
     rt: &impl Abort,
     alloc: Global,
     nodes: &[N],
@@ -60,7 +55,7 @@ fn an_empty_graph(rt: HostRuntime) -> Result<(), Fail> {
 
 #[test]
 fn two_nodes(rt: HostRuntime) -> Result<(), Fail> {
-    let graph: DiGraph<Text, u32, u32> = made(&rt, rt.alloc(), &["sow", "reap"], &[(0, 1, 90)]);
+    let graph: DiGraph<Text, u32, u32> = graph_of(&rt, rt.alloc(), &["sow", "reap"], &[(0, 1, 90)]);
     let text = "digraph {
     0 [ label = \"sow\" ]
     1 [ label = \"reap\" ]
@@ -73,7 +68,7 @@ fn two_nodes(rt: HostRuntime) -> Result<(), Fail> {
 #[test]
 fn escapes(rt: HostRuntime) -> Result<(), Fail> {
     let names = ["say \"sow\"\nC:\\new\\", "日本 \u{1F33E}"];
-    let graph: DiGraph<Text, Text, u32> = made(
+    let graph: DiGraph<Text, Text, u32> = graph_of(
         &rt,
         rt.alloc(),
         &names,
@@ -91,7 +86,7 @@ fn escapes(rt: HostRuntime) -> Result<(), Fail> {
 #[test]
 fn parallel_edges_and_a_cycle(rt: HostRuntime) -> Result<(), Fail> {
     let edges = [(0, 1, 90), (0, 1, 80), (1, 0, 5)];
-    let graph: StableDiGraph<Text, u32, u32> = made(&rt, rt.alloc(), &["sow", "reap"], &edges);
+    let graph: StableDiGraph<Text, u32, u32> = graph_of(&rt, rt.alloc(), &["sow", "reap"], &edges);
     let text = "digraph {
     0 [ label = \"sow\" style = bold ]
     1 [ label = \"reap\" style = bold ]
@@ -107,7 +102,7 @@ fn parallel_edges_and_a_cycle(rt: HostRuntime) -> Result<(), Fail> {
 #[test]
 fn vacant_slots(rt: HostRuntime) -> Result<(), Fail> {
     let edges = [(0, 1, 30), (0, 2, 90)];
-    let mut graph: StableDiGraph<Text, u32, u32> = made(
+    let mut graph: StableDiGraph<Text, u32, u32> = graph_of(
         &rt,
         rt.alloc(),
         &["sow", "hoe", "reap"],
@@ -156,7 +151,7 @@ impl Label<EdgeIndex, ()> for Numbers {
 
 #[test]
 fn labels_of_ones_own(rt: HostRuntime) -> Result<(), Fail> {
-    let graph: DiGraph<u32, (), u32> = made(&rt, rt.alloc(), &[3, 5], &[(0, 1, ())]);
+    let graph: DiGraph<u32, (), u32> = graph_of(&rt, rt.alloc(), &[3, 5], &[(0, 1, ())]);
     let text = "digraph {
     0 [ label = \"0: 3 \\\"days\\\"\" shape = box ]
     1 [ label = \"1: 5 \\\"days\\\"\" shape = box ]
@@ -172,7 +167,7 @@ fn labels_of_ones_own(rt: HostRuntime) -> Result<(), Fail> {
 
 #[test]
 fn no_labels(rt: HostRuntime) -> Result<(), Fail> {
-    let graph: DiGraph<u32, (), u32> = made(&rt, rt.alloc(), &[3, 5], &[(0, 1, ())]);
+    let graph: DiGraph<u32, (), u32> = graph_of(&rt, rt.alloc(), &[3, 5], &[(0, 1, ())]);
     let text = "digraph {
     0 [ label = \"3\" style = bold ]
     1 [ label = \"5\" ]
@@ -196,7 +191,7 @@ fn no_labels(rt: HostRuntime) -> Result<(), Fail> {
 fn ranks_and_a_path(rt: HostRuntime) -> Result<(), Fail> {
     let names = ["sow", "hoe", "mow", "reap"];
     let edges = [(0, 1, 30), (0, 2, 20), (1, 3, 60)];
-    let graph: DiGraph<Text, u32, u32> = made(&rt, rt.alloc(), &names, &edges);
+    let graph: DiGraph<Text, u32, u32> = graph_of(&rt, rt.alloc(), &names, &edges);
     let (sow, hoe) = (node(&rt, 0), node(&rt, 1));
     let (mow, reap) = (node(&rt, 2), node(&rt, 3));
     let stages = vec![in rt.alloc();
@@ -240,7 +235,12 @@ impl Write for Narrow {
 
 #[test]
 fn a_writer_that_fails(rt: HostRuntime) -> Result<(), Fail> {
-    let graph: DiGraph<Text, u32, u32> = made(&rt, rt.alloc(), &["s\"w", "reap"], &[(0, 1, 90)]);
+    let graph: DiGraph<Text, u32, u32> = graph_of(
+        &rt,
+        rt.alloc(),
+        &["s\"w", "reap"],
+        &[(0, 1, 90)],
+    );
     let path = [node(&rt, 0), node(&rt, 1)];
     let stages = vec![in rt.alloc(); vec![in rt.alloc(); path[0], path[1]]?]?;
     let dot = Dot::of_graph(&graph).bold(&path).ranks(stages.as_slice());

@@ -1,5 +1,6 @@
 //! Schedules on workers that were worked out by hand.
-use super::support::{Plain, dag_of, holds, made, node, same, times};
+use super::support::{Plain, dag_of, times};
+use crate::support::{holds, made, node, same};
 use daggy_base::store::Store;
 use daggy_graph::graph::DiGraph;
 use daggy_schedule::on_workers::{Assignment, schedule_on};

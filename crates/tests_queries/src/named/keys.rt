@@ -1,5 +1,6 @@
 //! Keys that are numbers, borrowed texts and owned texts.
-use super::support::{goes, made, same};
+use super::support::goes;
+use crate::support::{made, same};
 use daggy_named::error::{AddError, DependError};
 use daggy_named::named::Named;
 use std::alloc::Global;

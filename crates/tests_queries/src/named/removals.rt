@@ -1,5 +1,5 @@
 //! Keys and indices after removals.
-use super::support::{made, same};
+use crate::support::{made, same};
 use daggy_named::error::DependError;
 use daggy_named::named::Named;
 

@@ -1,5 +1,0 @@
-//! Dags whose nodes are named by keys, by example.
-#![tactic(auto)]
-
-#[cfg(test)]
-mod tests;

@@ -1,0 +1,13 @@
+//! What is asked of dags, by example: traversals, ready queues and schedules, names and pictures.
+#![tactic(auto)]
+
+#[cfg(test)]
+mod named;
+#[cfg(test)]
+mod pictures;
+#[cfg(test)]
+mod schedule;
+#[cfg(test)]
+mod support;
+#[cfg(test)]
+mod traversal;

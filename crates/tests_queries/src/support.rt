@@ -1,0 +1,44 @@
+//! The assertions.
+//!
+//! Each `assert_eq!` costs a proof, so it is written here once, and tests call it.
+ghost use Rattle.std.specs.Prelude.{◌≡◌, IsTrue, Ok};
+
+use daggy_base::index::NodeIndex;
+use std::fmt::Debug;
+use std::process::Abort;
+
+/// Asserts that what was found is what is wanted.
+pub fn same<T: PartialEq + Debug + Drop>(rt: &impl Abort, found: T, wanted: T) {
+    assert_eq!(rt; found, wanted);
+}
+
+/// Asserts a fact, which calls after it may rest on.
+pub fn holds(rt: &impl Abort, fact: bool)
+    ensures { IsTrue fact }
+{
+    assert!(rt; fact);
+}
+
+/// Asserts that a call succeeded, and returns its value.
+pub fn made<T: Drop, E: Drop>(rt: &impl Abort, answer: Result<T, E>) -> T
+    ensures { answer ≡ Ok result }
+{
+    match answer {
+        Ok(x) => x,
+        Err(_) => panic!(rt; "the call was refused"),
+    }
+}
+
+/// The index of a node.
+pub fn node(rt: &impl Abort, x: usize) -> NodeIndex {
+    assert!(rt; x <= NodeIndex::<u32>::end().index());
+    NodeIndex::new(x)
+}
+
+/// Asserts that a list of nodes has these indices.
+pub fn lists(rt: &impl Abort, found: &[NodeIndex], wanted: &[usize]) {
+    same(rt, found.len(), wanted.len());
+    for (n, index) in found.iter().zip(wanted) {
+        same(rt, n.index(), *index);
+    }
+}

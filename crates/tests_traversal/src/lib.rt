@@ -1,5 +1,0 @@
-//! Walks over graphs, by example.
-#![tactic(auto)]
-
-#[cfg(test)]
-mod tests;
