@@ -1,2 +1,3 @@
 pub mod ClearedWeights
 pub mod Texts
+pub mod Reweighed

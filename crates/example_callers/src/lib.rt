@@ -1,8 +1,9 @@
-//! Proved callers of the library: they copy dags, write all weights, iterate over the children or
-//! parents of a node, use closures that index tables, compare two reductions, and write and read
-//! dags of `String` weights.
+//! Proved callers of the library: they copy dags, write all weights, or each in topological order,
+//! iterate over the children or parents of a node, use closures that index tables, compare two
+//! reductions, and write and read dags of `String` weights.
 #![tactic(auto)]
 
+pub mod along;
 pub mod copies;
 pub mod cursors;
 pub mod documents;
