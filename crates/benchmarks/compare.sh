@@ -5,10 +5,8 @@
 # Either program may be -, and its rows are left out; with ROW, only the rows whose text contains it are printed.
 # PEER_BENCH NAME NODES EDGES [--kind stable] --reps COUNT prints a line that ends with seconds, the median of COUNT
 # runs in one process, and on standard error `check .. VALUE`.
-# With PEER_REDUCTION in the environment, reductions below all nodes are compared with that program too: PEER_REDUCTION
-# SHAPE NODES EDGES prints a line that ends with the seconds of one reduction of such a dag, of its own making.
-# With PEER_QUESTIONS in the environment, a second table compares questions, schedules and dags of other types with that
-# program, of the same form as PEER_BENCH: the one in .ci/peer.
+# With PEER_QUESTIONS in the environment, a second table compares questions, schedules, dags of other types and reductions
+# below all nodes with that program, of the same form as PEER_BENCH: the one in .ci/peer.
 # PEER_PROGRAM compact reads command lines and writes replies.
 set -eu
 peer_bench=$([ "$1" = - ] && echo - || realpath "$1")
@@ -65,23 +63,6 @@ small() { # NODES EDGES REPS: dags of the sizes that most people have, of both k
     workload 5 "$name" "$1" "$2" --kind stable
   done
   reps=1
-}
-
-reduction() { # ROUNDS SHAPE NODES EDGES: the dags are alike, and not the same, so no check values are compared
-  local rounds=$1
-  shift
-  asked "reduce_$*" || return 0
-  printf '| reduce_%s |' "$*"
-  for _ in 1 2; do
-    : > "$work/ours"
-    : > "$work/theirs"
-    for _ in $(seq "$rounds"); do
-      "$our_bench" "reduce_$1" "$2" "$3" 2> /dev/null | awk '{ print $NF }' >> "$work/ours"
-      "$PEER_REDUCTION" "$@" | awk '{ print $NF }' >> "$work/theirs"
-    done
-    series
-  done
-  echo " |"
 }
 
 program() { # ROUNDS
@@ -164,15 +145,6 @@ small 10000 50000 41
 workload 11 reduce 10 10
 workload 11 json_write 100000 500000
 workload 11 json_read 100000 500000
-if [ -n "${PEER_REDUCTION:-}" ]; then
-  reduction 11 random 2000 20000
-  reduction 7 random 4000 40000
-  reduction 3 random 16000 160000
-  reduction 3 local 20000 100000
-  reduction 3 chain 100000 0
-  reduction 7 complete 1000 0
-  reduction 11 diamonds 121 0
-fi
 [ "$peer_program" = "-" ] || program 5
 if [ -n "${PEER_QUESTIONS:-}" ]; then
   peer_bench=$(realpath "$PEER_QUESTIONS")
@@ -186,4 +158,10 @@ if [ -n "${PEER_QUESTIONS:-}" ]; then
   questions 300 900 2001 "${types[@]}"
   questions 10000 50000 41 "${types[@]}"
   questions 100000 500000 7 find_edge walk_usize build_texts
+  workload 7 reduce_random 2000 20000
+  workload 7 reduce_random 4000 40000
+  workload 3 reduce_random 16000 160000
+  workload 3 reduce_local 20000 100000
+  workload 7 reduce_complete 1000 499500
+  workload 7 reduce_diamonds 121 160
 fi

@@ -24,6 +24,19 @@ impl Random {
     }
 }
 
+/// Random pairs of different numbers, the lesser first.
+fn ordered(random: &mut Random, nodes: u32, edges: usize) -> Vec<(u32, u32)> {
+    let mut pairs = Vec::with_capacity(edges);
+    while pairs.len() < edges {
+        let i = random.below(nodes);
+        let j = random.below(nodes);
+        if i != j {
+            pairs.push((i.min(j), i.max(j)));
+        }
+    }
+    pairs
+}
+
 /// Edges along a random order of the nodes, in random order.
 pub fn random_pairs(nodes: u32, edges: usize) -> Vec<(u32, u32)> {
     let mut random = Random::new(1);
@@ -31,15 +44,50 @@ pub fn random_pairs(nodes: u32, edges: usize) -> Vec<(u32, u32)> {
     for i in (1..nodes).rev() {
         place.swap(i as usize, random.below(i + 1) as usize);
     }
-    let mut pairs = Vec::with_capacity(edges);
-    while pairs.len() < edges {
-        let i = random.below(nodes);
-        let j = random.below(nodes);
-        if i != j {
-            pairs.push((place[i.min(j) as usize], place[i.max(j) as usize]));
-        }
-    }
-    pairs
+    ordered(&mut random, nodes, edges)
+        .into_iter()
+        .map(|(i, j)| (place[i as usize], place[j as usize]))
+        .collect()
+}
+
+/// Edges from lower nodes to higher ones, in random order.
+pub fn low_high_pairs(nodes: u32, edges: usize) -> Vec<(u32, u32)> {
+    ordered(&mut Random::new(1), nodes, edges)
+}
+
+/// Edges that lead at most 50 nodes on.
+pub fn local_pairs(nodes: u32, edges: usize) -> Vec<(u32, u32)> {
+    let mut random = Random::new(1);
+    let last = nodes - 1;
+    (0..edges)
+        .map(|_| {
+            let parent = random.below(last);
+            let span = (last - parent).min(50);
+            (parent, parent + 1 + random.below(span))
+        })
+        .collect()
+}
+
+/// An edge from each node to the next.
+pub fn chain_pairs(nodes: u32) -> Vec<(u32, u32)> {
+    (1..nodes).map(|child| (child - 1, child)).collect()
+}
+
+/// An edge from each node to all later ones.
+pub fn complete_pairs(nodes: u32) -> Vec<(u32, u32)> {
+    (1..nodes)
+        .flat_map(|child| (0..child).map(move |parent| (parent, child)))
+        .collect()
+}
+
+/// Diamonds of four nodes one after another, each beginning where the one before ends.
+pub fn diamond_pairs(nodes: u32) -> Vec<(u32, u32)> {
+    (0..(nodes - 1) / 3)
+        .flat_map(|k| {
+            let top = 3 * k;
+            [(0, 1), (0, 2), (1, 3), (2, 3)].map(|(a, b)| (top + a, top + b))
+        })
+        .collect()
 }
 
 /// The nodes that the questions are about.

@@ -1,9 +1,10 @@
-//! Times what is written over petgraph alone, on the random dags of `crates/benchmarks`:
+//! Times what is written over petgraph alone, on the dags of `crates/benchmarks`:
 //! `peer NAME NODES EDGES` prints `NAME NODES SECONDS`, and a check value on standard error. After
 //! these, `--kind stable` selects a stable graph, and `--reps COUNT` the median of COUNT runs.
 
 mod inputs;
 mod questions;
+mod reductions;
 mod schedules;
 mod types;
 
@@ -171,9 +172,13 @@ fn run_built(request: &Request, pairs: &[(u32, u32)]) -> Option<(f64, u64)> {
         ("walk_u16", false) => types::walk::<u16, DiGraph<i64, i64, u16>>(request, pairs),
         ("walk_u16", true) => types::walk::<u16, StableDiGraph<i64, i64, u16>>(request, pairs),
         ("walk_usize", false) => types::walk::<usize, DiGraph<i64, i64, usize>>(request, pairs),
-        ("walk_usize", true) => types::walk::<usize, StableDiGraph<i64, i64, usize>>(request, pairs),
+        ("walk_usize", true) => {
+            types::walk::<usize, StableDiGraph<i64, i64, usize>>(request, pairs)
+        }
         ("build_texts", false) => types::build_texts::<DiGraph<String, String>>(request, pairs),
-        ("build_texts", true) => types::build_texts::<StableDiGraph<String, String>>(request, pairs),
+        ("build_texts", true) => {
+            types::build_texts::<StableDiGraph<String, String>>(request, pairs)
+        }
         _ => return None,
     };
     Some(figures)
@@ -182,6 +187,10 @@ fn run_built(request: &Request, pairs: &[(u32, u32)]) -> Option<(f64, u64)> {
 fn main() {
     let words: Vec<String> = std::env::args().skip(1).collect();
     let figures = Request::of_words(&words).and_then(|request| {
+        if let Some(pairs) = reductions::pairs_of(&request) {
+            let (time, check) = reductions::reduce(&request, &pairs);
+            return Some((request, time, check));
+        }
         let pairs = random_pairs(request.nodes, request.edges);
         let built = run_built(&request, &pairs);
         let figures = if built.is_some() {

@@ -5,7 +5,9 @@ use petgraph::data::Create;
 use petgraph::graph::{DiGraph, EdgeIndex, IndexType, NodeIndex};
 use petgraph::stable_graph::StableDiGraph;
 
-pub trait Kind<W, Ix>: Create<NodeId = NodeIndex<Ix>, EdgeId = EdgeIndex<Ix>, NodeWeight = W, EdgeWeight = W> {
+pub trait Kind<W, Ix>:
+    Create<NodeId = NodeIndex<Ix>, EdgeId = EdgeIndex<Ix>, NodeWeight = W, EdgeWeight = W>
+{
     /// The index of an edge from a node to another, or the greatest number if there is none.
     fn found(&self, a: NodeIndex<Ix>, b: NodeIndex<Ix>) -> u64;
 
@@ -36,13 +38,21 @@ kind!(DiGraph);
 kind!(StableDiGraph);
 
 /// The graph of these edges. Its lists grow as it does.
-fn build<W, Ix: IndexType, G: Kind<W, Ix>>(nodes: Vec<W>, pairs: &[(u32, u32)], edges: Vec<W>) -> G {
+fn build<W, Ix: IndexType, G: Kind<W, Ix>>(
+    nodes: Vec<W>,
+    pairs: &[(u32, u32)],
+    edges: Vec<W>,
+) -> G {
     let mut graph = G::with_capacity(0, 0);
     for weight in nodes {
         graph.add_node(weight);
     }
     for (&(parent, child), weight) in pairs.iter().zip(edges) {
-        graph.add_edge(NodeIndex::new(parent as usize), NodeIndex::new(child as usize), weight);
+        graph.add_edge(
+            NodeIndex::new(parent as usize),
+            NodeIndex::new(child as usize),
+            weight,
+        );
     }
     graph
 }
@@ -56,7 +66,10 @@ fn texts(count: usize) -> Vec<String> {
 }
 
 /// Walks over the children of each node, ten times.
-pub fn walk<Ix: IndexType, G: Kind<i64, Ix>>(request: &Request, pairs: &[(u32, u32)]) -> (f64, u64) {
+pub fn walk<Ix: IndexType, G: Kind<i64, Ix>>(
+    request: &Request,
+    pairs: &[(u32, u32)],
+) -> (f64, u64) {
     let graph: G = build(numbers(request.nodes as usize), pairs, numbers(pairs.len()));
     median(request.reps, || {
         let mut check = 0u64;
@@ -74,7 +87,10 @@ pub fn find_edges<G: Kind<i64, u32>>(request: &Request, pairs: &[(u32, u32)]) ->
     let graph: G = build(numbers(request.nodes as usize), pairs, numbers(pairs.len()));
     median(request.reps, || {
         pairs.iter().fold(0, |check, &(a, b)| {
-            mixed(check, graph.found(NodeIndex::new(a as usize), NodeIndex::new(b as usize)))
+            mixed(
+                check,
+                graph.found(NodeIndex::new(a as usize), NodeIndex::new(b as usize)),
+            )
         })
     })
 }
