@@ -279,15 +279,18 @@ impl Write for Narrow {
     }
 }
 
-fn fail_in_a_writer<S: Store<u32, NodeWeight = Text, EdgeWeight = u32>>(
-    rt: &impl Abort,
-    alloc: Global,
-) -> Result<(), Fail> {
-    let graph: S = graph_of(rt, alloc, &["s\"w", "reap"], &[(0, 1, 90)]);
-    let path = [node(rt, 0), node(rt, 1)];
-    let stages = vec![in alloc; vec![in alloc; path[0], path[1]]?]?;
+#[test]
+fn a_writer_that_fails(rt: HostRuntime) -> Result<(), Fail> {
+    let graph: DiGraph<Text, u32, u32> = graph_of(
+        &rt,
+        rt.alloc(),
+        &["s\"w", "reap"],
+        &[(0, 1, 90)],
+    );
+    let path = [node(&rt, 0), node(&rt, 1)];
+    let stages = vec![in rt.alloc(); vec![in rt.alloc(); path[0], path[1]]?]?;
     let dot = Dot::of_graph(&graph).bold(&path).ranks(stages.as_slice());
-    let whole = format!(in alloc; "{dot}")?.len();
+    let whole = format!(in rt.alloc(); "{dot}")?.len();
     for room in 0..whole {
         let mut out = Narrow { room };
         assert!(rt; out.write(&dot).is_err());
@@ -296,9 +299,4 @@ fn fail_in_a_writer<S: Store<u32, NodeWeight = Text, EdgeWeight = u32>>(
     assert!(rt; out.write(&dot).is_ok());
     assert!(rt; out.room == 0);
     Ok(())
-}
-
-#[test]
-fn a_writer_that_fails(rt: HostRuntime) -> Result<(), Fail> {
-    fail_in_a_writer::<DiGraph<Text, u32, u32>>(&rt, rt.alloc())
 }
