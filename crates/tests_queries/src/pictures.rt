@@ -47,46 +47,64 @@ fn shows<D: Display + Drop>(
     Ok(())
 }
 
-#[test]
-fn an_empty_graph(rt: HostRuntime) -> Result<(), Fail> {
-    let graph: DiGraph<Text, u32, u32> = DiGraph::new(rt.alloc());
-    shows(&rt, rt.alloc(), Dot::of_graph(&graph), "digraph {\n}\n")
+fn draw_empty_graph<S: Store<u32, NodeWeight = Text, EdgeWeight = u32>>(
+    rt: &impl Abort,
+    alloc: Global,
+) -> Result<(), Fail> {
+    let graph: S = S::new(alloc);
+    shows(rt, alloc, Dot::of_graph(&graph), "digraph {\n}\n")
 }
 
 #[test]
-fn two_nodes(rt: HostRuntime) -> Result<(), Fail> {
-    let graph: DiGraph<Text, u32, u32> = graph_of(&rt, rt.alloc(), &["sow", "reap"], &[(0, 1, 90)]);
+fn an_empty_graph(rt: HostRuntime) -> Result<(), Fail> {
+    draw_empty_graph::<DiGraph<Text, u32, u32>>(&rt, rt.alloc())
+}
+
+fn draw_two_nodes<S: Store<u32, NodeWeight = Text, EdgeWeight = u32>>(
+    rt: &impl Abort,
+    alloc: Global,
+) -> Result<(), Fail> {
+    let graph: S = graph_of(rt, alloc, &["sow", "reap"], &[(0, 1, 90)]);
     let text = "digraph {
     0 [ label = \"sow\" ]
     1 [ label = \"reap\" ]
     0 -> 1 [ label = \"90\" ]
 }
 ";
-    shows(&rt, rt.alloc(), Dot::of_graph(&graph), text)
+    shows(rt, alloc, Dot::of_graph(&graph), text)
 }
 
 #[test]
-fn escapes(rt: HostRuntime) -> Result<(), Fail> {
+fn two_nodes(rt: HostRuntime) -> Result<(), Fail> {
+    draw_two_nodes::<DiGraph<Text, u32, u32>>(&rt, rt.alloc())
+}
+
+fn draw_escapes<S: Store<u32, NodeWeight = Text, EdgeWeight = Text>>(
+    rt: &impl Abort,
+    alloc: Global,
+) -> Result<(), Fail> {
     let names = ["say \"sow\"\nC:\\new\\", "日本 \u{1F33E}"];
-    let graph: DiGraph<Text, Text, u32> = graph_of(
-        &rt,
-        rt.alloc(),
-        &names,
-        &[(0, 1, "säen & <b>&amp;</b>")],
-    );
+    let graph: S = graph_of(rt, alloc, &names, &[(0, 1, "säen & <b>&amp;</b>")]);
     let text = "digraph {
     0 [ label = \"say \\\"sow\\\"\\nC:\\\\new\\\\\" ]
     1 [ label = \"日本 \u{1F33E}\" ]
     0 -> 1 [ label = \"säen &amp; <b>&amp;amp;</b>\" ]
 }
 ";
-    shows(&rt, rt.alloc(), Dot::of_graph(&graph), text)
+    shows(rt, alloc, Dot::of_graph(&graph), text)
 }
 
 #[test]
-fn parallel_edges_and_a_cycle(rt: HostRuntime) -> Result<(), Fail> {
+fn escapes(rt: HostRuntime) -> Result<(), Fail> {
+    draw_escapes::<DiGraph<Text, Text, u32>>(&rt, rt.alloc())
+}
+
+fn draw_parallel_edges_and_a_cycle<S: Store<u32, NodeWeight = Text, EdgeWeight = u32>>(
+    rt: &impl Abort,
+    alloc: Global,
+) -> Result<(), Fail> {
     let edges = [(0, 1, 90), (0, 1, 80), (1, 0, 5)];
-    let graph: StableDiGraph<Text, u32, u32> = graph_of(&rt, rt.alloc(), &["sow", "reap"], &edges);
+    let graph: S = graph_of(rt, alloc, &["sow", "reap"], &edges);
     let text = "digraph {
     0 [ label = \"sow\" style = bold ]
     1 [ label = \"reap\" style = bold ]
@@ -95,23 +113,25 @@ fn parallel_edges_and_a_cycle(rt: HostRuntime) -> Result<(), Fail> {
     1 -> 0 [ label = \"5\" ]
 }
 ";
-    let path = [node(&rt, 0), node(&rt, 1)];
-    shows(&rt, rt.alloc(), Dot::of_graph(&graph).bold(&path), text)
+    let path = [node(rt, 0), node(rt, 1)];
+    shows(rt, alloc, Dot::of_graph(&graph).bold(&path), text)
 }
 
 #[test]
-fn vacant_slots(rt: HostRuntime) -> Result<(), Fail> {
+fn parallel_edges_and_a_cycle(rt: HostRuntime) -> Result<(), Fail> {
+    draw_parallel_edges_and_a_cycle::<StableDiGraph<Text, u32, u32>>(&rt, rt.alloc())
+}
+
+fn draw_vacant_slots<S: Store<u32, NodeWeight = Text, EdgeWeight = u32>>(
+    rt: &impl Abort,
+    alloc: Global,
+) -> Result<(), Fail> {
     let edges = [(0, 1, 30), (0, 2, 90)];
-    let mut graph: StableDiGraph<Text, u32, u32> = graph_of(
-        &rt,
-        rt.alloc(),
-        &["sow", "hoe", "reap"],
-        &edges,
-    );
-    let (sow, hoe, reap) = (node(&rt, 0), node(&rt, 1), node(&rt, 2));
+    let mut graph: S = graph_of(rt, alloc, &["sow", "hoe", "reap"], &edges);
+    let (sow, hoe, reap) = (node(rt, 0), node(rt, 1), node(rt, 2));
     let _ = graph.remove_node(hoe);
     // A node that does not exist is on no rank, and no edge is on a path past it.
-    let stages = vec![in rt.alloc(); vec![in rt.alloc(); sow]?, vec![in rt.alloc(); hoe, reap]?]?;
+    let stages = vec![in alloc; vec![in alloc; sow]?, vec![in alloc; hoe, reap]?]?;
     let path = [sow, hoe, reap];
     let text = "digraph {
     0 [ label = \"sow\" style = bold ]
@@ -122,7 +142,12 @@ fn vacant_slots(rt: HostRuntime) -> Result<(), Fail> {
 }
 ";
     let dot = Dot::of_graph(&graph).ranks(stages.as_slice()).bold(&path);
-    shows(&rt, rt.alloc(), dot, text)
+    shows(rt, alloc, dot, text)
+}
+
+#[test]
+fn vacant_slots(rt: HostRuntime) -> Result<(), Fail> {
+    draw_vacant_slots::<StableDiGraph<Text, u32, u32>>(&rt, rt.alloc())
 }
 
 // Labels a node by its index and its weight, in a box.
@@ -149,9 +174,11 @@ impl Label<EdgeIndex, ()> for Numbers {
     }
 }
 
-#[test]
-fn labels_of_ones_own(rt: HostRuntime) -> Result<(), Fail> {
-    let graph: DiGraph<u32, (), u32> = graph_of(&rt, rt.alloc(), &[3, 5], &[(0, 1, ())]);
+fn draw_labels_of_ones_own<S: Store<u32, NodeWeight = u32, EdgeWeight = ()>>(
+    rt: &impl Abort,
+    alloc: Global,
+) -> Result<(), Fail> {
+    let graph: S = graph_of(rt, alloc, &[3, 5], &[(0, 1, ())]);
     let text = "digraph {
     0 [ label = \"0: 3 \\\"days\\\"\" shape = box ]
     1 [ label = \"1: 5 \\\"days\\\"\" shape = box ]
@@ -162,21 +189,28 @@ fn labels_of_ones_own(rt: HostRuntime) -> Result<(), Fail> {
     let dot = Dot::of_graph(&graph)
         .node_labels(labels)
         .edge_labels(Numbers);
-    shows(&rt, rt.alloc(), dot, text)
+    shows(rt, alloc, dot, text)
 }
 
 #[test]
-fn no_labels(rt: HostRuntime) -> Result<(), Fail> {
-    let graph: DiGraph<u32, (), u32> = graph_of(&rt, rt.alloc(), &[3, 5], &[(0, 1, ())]);
+fn labels_of_ones_own(rt: HostRuntime) -> Result<(), Fail> {
+    draw_labels_of_ones_own::<DiGraph<u32, (), u32>>(&rt, rt.alloc())
+}
+
+fn draw_no_labels<S: Store<u32, NodeWeight = u32, EdgeWeight = ()>>(
+    rt: &impl Abort,
+    alloc: Global,
+) -> Result<(), Fail> {
+    let graph: S = graph_of(rt, alloc, &[3, 5], &[(0, 1, ())]);
     let text = "digraph {
     0 [ label = \"3\" style = bold ]
     1 [ label = \"5\" ]
     0 -> 1 [ ]
 }
 ";
-    let path = [node(&rt, 0)];
+    let path = [node(rt, 0)];
     let dot = Dot::of_graph(&graph).no_edge_labels().bold(&path);
-    shows(&rt, rt.alloc(), dot, text)?;
+    shows(rt, alloc, dot, text)?;
     let text = "digraph {
     0 [ ]
     1 [ ]
@@ -184,20 +218,27 @@ fn no_labels(rt: HostRuntime) -> Result<(), Fail> {
 }
 ";
     let dot = Dot::of_graph(&graph).node_labels(NoLabels).no_edge_labels();
-    shows(&rt, rt.alloc(), dot, text)
+    shows(rt, alloc, dot, text)
 }
 
 #[test]
-fn ranks_and_a_path(rt: HostRuntime) -> Result<(), Fail> {
+fn no_labels(rt: HostRuntime) -> Result<(), Fail> {
+    draw_no_labels::<DiGraph<u32, (), u32>>(&rt, rt.alloc())
+}
+
+fn draw_ranks_and_a_path<S: Store<u32, NodeWeight = Text, EdgeWeight = u32>>(
+    rt: &impl Abort,
+    alloc: Global,
+) -> Result<(), Fail> {
     let names = ["sow", "hoe", "mow", "reap"];
     let edges = [(0, 1, 30), (0, 2, 20), (1, 3, 60)];
-    let graph: DiGraph<Text, u32, u32> = graph_of(&rt, rt.alloc(), &names, &edges);
-    let (sow, hoe) = (node(&rt, 0), node(&rt, 1));
-    let (mow, reap) = (node(&rt, 2), node(&rt, 3));
-    let stages = vec![in rt.alloc();
-        vec![in rt.alloc(); sow]?,
-        vec![in rt.alloc(); hoe, mow]?,
-        vec![in rt.alloc(); reap]?,
+    let graph: S = graph_of(rt, alloc, &names, &edges);
+    let (sow, hoe) = (node(rt, 0), node(rt, 1));
+    let (mow, reap) = (node(rt, 2), node(rt, 3));
+    let stages = vec![in alloc;
+        vec![in alloc; sow]?,
+        vec![in alloc; hoe, mow]?,
+        vec![in alloc; reap]?,
     ]?;
     let path = [sow, hoe, reap];
     let text = "digraph {
@@ -214,7 +255,12 @@ fn ranks_and_a_path(rt: HostRuntime) -> Result<(), Fail> {
 }
 ";
     let dot = Dot::of_graph(&graph).bold(&path).ranks(stages.as_slice());
-    shows(&rt, rt.alloc(), dot, text)
+    shows(rt, alloc, dot, text)
+}
+
+#[test]
+fn ranks_and_a_path(rt: HostRuntime) -> Result<(), Fail> {
+    draw_ranks_and_a_path::<DiGraph<Text, u32, u32>>(&rt, rt.alloc())
 }
 
 // A writer with room for a number of bytes.

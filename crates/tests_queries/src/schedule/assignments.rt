@@ -88,23 +88,34 @@ fn assigns_too_much<S: Store<u32, NodeWeight = u64, EdgeWeight = ()>>(
     holds(rt, matches!(two, Err(ScheduleError::Overflow)));
 }
 
+fn assigns_in_all_ways<S: Store<u32, NodeWeight = u64, EdgeWeight = ()>>(
+    rt: &impl Abort,
+    alloc: Global,
+) {
+    assigns::<S>(rt, alloc);
+    assigns_at_once::<S>(rt, alloc);
+    assigns_badly::<S>(rt, alloc);
+    assigns_too_much::<S>(rt, alloc);
+}
+
+// The same, and past a vacant slot.
+fn assigns_past_a_slot<S: Store<u32, NodeWeight = u64, EdgeWeight = ()>>(
+    rt: &impl Abort,
+    alloc: Global,
+) {
+    assigns_in_all_ways::<S>(rt, alloc);
+    let edges = [(0, 1), (1, 2), (0, 3)];
+    let mut dag = dag_of::<S>(rt, alloc, &[2, 9, 1, 3], &edges);
+    holds(rt, dag.remove_node(node(rt, 1)).is_some());
+    found(rt, &assign(rt, alloc, &dag, 1), &[0, 0, 5, 2], &[0; 4], 6);
+}
+
 #[test]
 fn assigns_dags(rt: HostRuntime) {
-    assigns::<DiGraph<u64, (), u32>>(&rt, rt.alloc());
-    assigns_at_once::<DiGraph<u64, (), u32>>(&rt, rt.alloc());
-    assigns_badly::<DiGraph<u64, (), u32>>(&rt, rt.alloc());
-    assigns_too_much::<DiGraph<u64, (), u32>>(&rt, rt.alloc());
+    assigns_in_all_ways::<DiGraph<u64, (), u32>>(&rt, rt.alloc());
 }
 
 #[test]
 fn assigns_stable_dags(rt: HostRuntime) {
-    let alloc = rt.alloc();
-    assigns::<StableDiGraph<u64, (), u32>>(&rt, alloc);
-    assigns_at_once::<StableDiGraph<u64, (), u32>>(&rt, alloc);
-    assigns_badly::<StableDiGraph<u64, (), u32>>(&rt, alloc);
-    assigns_too_much::<StableDiGraph<u64, (), u32>>(&rt, alloc);
-    let edges = [(0, 1), (1, 2), (0, 3)];
-    let mut dag = dag_of::<StableDiGraph<u64, (), u32>>(&rt, alloc, &[2, 9, 1, 3], &edges);
-    holds(&rt, dag.remove_node(node(&rt, 1)).is_some());
-    found(&rt, &assign(&rt, alloc, &dag, 1), &[0, 0, 5, 2], &[0; 4], 6);
+    assigns_past_a_slot::<StableDiGraph<u64, (), u32>>(&rt, rt.alloc());
 }

@@ -115,6 +115,18 @@ fn works_off<S: Store<u32, NodeWeight = u64, EdgeWeight = ()>>(rt: &impl Abort, 
     begins(rt, alloc, &flat, 1, &[1, 2, 3, 0]);
 }
 
+// The same, and past a vacant slot.
+fn works_off_past_a_slot<S: Store<u32, NodeWeight = u64, EdgeWeight = ()>>(
+    rt: &impl Abort,
+    alloc: Global,
+) {
+    works_off::<S>(rt, alloc);
+    let edges = [(0, 1), (1, 2)];
+    let mut dag = dag_of::<S>(rt, alloc, &[1, 9, 2, 3], &edges);
+    holds(rt, dag.remove_node(node(rt, 1)).is_some());
+    begins(rt, alloc, &dag, 2, &[3, 2, 0]);
+}
+
 #[test]
 fn works_off_a_dag_by_keys(rt: HostRuntime) {
     works_off::<DiGraph<u64, (), u32>>(&rt, rt.alloc());
@@ -122,10 +134,5 @@ fn works_off_a_dag_by_keys(rt: HostRuntime) {
 
 #[test]
 fn works_off_a_stable_dag_by_keys(rt: HostRuntime) {
-    let alloc = rt.alloc();
-    works_off::<StableDiGraph<u64, (), u32>>(&rt, alloc);
-    let edges = [(0, 1), (1, 2)];
-    let mut dag = dag_of::<StableDiGraph<u64, (), u32>>(&rt, alloc, &[1, 9, 2, 3], &edges);
-    holds(&rt, dag.remove_node(node(&rt, 1)).is_some());
-    begins(&rt, alloc, &dag, 2, &[3, 2, 0]);
+    works_off_past_a_slot::<StableDiGraph<u64, (), u32>>(&rt, rt.alloc());
 }

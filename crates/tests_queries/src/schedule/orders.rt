@@ -45,20 +45,30 @@ fn orders_alike<S: Store<u32, NodeWeight = u64, EdgeWeight = ()>>(rt: &impl Abor
     orders_by_index::<S>(rt, alloc, &[(2, 4), (3, 4), (3, 1), (3, 0)]);
 }
 
+fn orders_all<S: Store<u32, NodeWeight = u64, EdgeWeight = ()>>(rt: &impl Abort, alloc: Global) {
+    orders::<S>(rt, alloc);
+    orders_alike::<S>(rt, alloc);
+}
+
+// The same, and past a vacant slot.
+fn orders_past_a_slot<S: Store<u32, NodeWeight = u64, EdgeWeight = ()>>(
+    rt: &impl Abort,
+    alloc: Global,
+) {
+    orders_all::<S>(rt, alloc);
+    let edges = [(3, 1), (1, 0), (3, 2)];
+    let mut dag = dag_of::<S>(rt, alloc, &[9, 1, 4, 6], &edges);
+    holds(rt, dag.remove_node(node(rt, 1)).is_some());
+    let order = made(rt, topological_order_by(alloc, &dag, |_, key| *key));
+    lists(rt, order.as_slice(), &[3, 2, 0]);
+}
+
 #[test]
 fn orders_of_dags(rt: HostRuntime) {
-    orders::<DiGraph<u64, (), u32>>(&rt, rt.alloc());
-    orders_alike::<DiGraph<u64, (), u32>>(&rt, rt.alloc());
+    orders_all::<DiGraph<u64, (), u32>>(&rt, rt.alloc());
 }
 
 #[test]
 fn orders_of_stable_dags(rt: HostRuntime) {
-    let alloc = rt.alloc();
-    orders::<StableDiGraph<u64, (), u32>>(&rt, alloc);
-    orders_alike::<StableDiGraph<u64, (), u32>>(&rt, alloc);
-    let edges = [(3, 1), (1, 0), (3, 2)];
-    let mut dag = dag_of::<StableDiGraph<u64, (), u32>>(&rt, alloc, &[9, 1, 4, 6], &edges);
-    holds(&rt, dag.remove_node(node(&rt, 1)).is_some());
-    let order = made(&rt, topological_order_by(alloc, &dag, |_, key| *key));
-    lists(&rt, order.as_slice(), &[3, 2, 0]);
+    orders_past_a_slot::<StableDiGraph<u64, (), u32>>(&rt, rt.alloc());
 }

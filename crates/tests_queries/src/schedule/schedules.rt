@@ -76,27 +76,35 @@ fn plans_too_much<S: Store<u32, NodeWeight = u64, EdgeWeight = ()>>(
     same(rt, plan.makespan, u64::MAX);
 }
 
+fn plans_all<S: Store<u32, NodeWeight = u64, EdgeWeight = ()>>(rt: &impl Abort, alloc: Global) {
+    plans::<S>(rt, alloc);
+    plans_by_table::<S>(rt, alloc);
+    plans_none::<S>(rt, alloc);
+    plans_too_much::<S>(rt, alloc);
+}
+
+// The same, and past a vacant slot.
+fn plans_past_a_slot<S: Store<u32, NodeWeight = u64, EdgeWeight = ()>>(
+    rt: &impl Abort,
+    alloc: Global,
+) {
+    plans_all::<S>(rt, alloc);
+    let edges = [(0, 1), (1, 2), (0, 3)];
+    let mut dag = dag_of::<S>(rt, alloc, &[2, 9, 1, 3], &edges);
+    holds(rt, dag.remove_node(node(rt, 1)).is_some());
+    let plan = made(rt, Schedule::new(alloc, &dag, |_, duration| *duration));
+    times(rt, plan.starts.as_slice(), &[0, 0, 0, 2]);
+    times(rt, plan.slack.as_slice(), &[0, 0, 4, 0]);
+    same(rt, plan.makespan, 5);
+    lists(rt, plan.critical.as_slice(), &[0, 3]);
+}
+
 #[test]
 fn schedules_of_dags(rt: HostRuntime) {
-    plans::<DiGraph<u64, (), u32>>(&rt, rt.alloc());
-    plans_by_table::<DiGraph<u64, (), u32>>(&rt, rt.alloc());
-    plans_none::<DiGraph<u64, (), u32>>(&rt, rt.alloc());
-    plans_too_much::<DiGraph<u64, (), u32>>(&rt, rt.alloc());
+    plans_all::<DiGraph<u64, (), u32>>(&rt, rt.alloc());
 }
 
 #[test]
 fn schedules_of_stable_dags(rt: HostRuntime) {
-    let alloc = rt.alloc();
-    plans::<StableDiGraph<u64, (), u32>>(&rt, alloc);
-    plans_by_table::<StableDiGraph<u64, (), u32>>(&rt, alloc);
-    plans_none::<StableDiGraph<u64, (), u32>>(&rt, alloc);
-    plans_too_much::<StableDiGraph<u64, (), u32>>(&rt, alloc);
-    let edges = [(0, 1), (1, 2), (0, 3)];
-    let mut dag = dag_of::<StableDiGraph<u64, (), u32>>(&rt, alloc, &[2, 9, 1, 3], &edges);
-    holds(&rt, dag.remove_node(node(&rt, 1)).is_some());
-    let plan = made(&rt, Schedule::new(alloc, &dag, |_, duration| *duration));
-    times(&rt, plan.starts.as_slice(), &[0, 0, 0, 2]);
-    times(&rt, plan.slack.as_slice(), &[0, 0, 4, 0]);
-    same(&rt, plan.makespan, 5);
-    lists(&rt, plan.critical.as_slice(), &[0, 3]);
+    plans_past_a_slot::<StableDiGraph<u64, (), u32>>(&rt, rt.alloc());
 }

@@ -72,14 +72,17 @@ fn other_nodes<S: Store<u32, NodeWeight = (), EdgeWeight = ()>>(rt: &impl Abort,
     goes_on(rt, alloc, &graph, postorder, 0, &[1, 2, 3, 4]);
 }
 
+fn all_nodes<S: Store<u32, NodeWeight = (), EdgeWeight = ()>>(rt: &impl Abort, alloc: Global) {
+    first_nodes::<S>(rt, alloc);
+    other_nodes::<S>(rt, alloc);
+}
+
 #[test]
 fn iterators_over_a_graph(rt: HostRuntime) {
-    first_nodes::<DiGraph<(), (), u32>>(&rt, rt.alloc());
-    other_nodes::<DiGraph<(), (), u32>>(&rt, rt.alloc());
+    all_nodes::<DiGraph<(), (), u32>>(&rt, rt.alloc());
 }
 
 #[test]
 fn iterators_over_a_stable_graph(rt: HostRuntime) {
-    first_nodes::<StableDiGraph<(), (), u32>>(&rt, rt.alloc());
-    other_nodes::<StableDiGraph<(), (), u32>>(&rt, rt.alloc());
+    all_nodes::<StableDiGraph<(), (), u32>>(&rt, rt.alloc());
 }

@@ -102,38 +102,43 @@ fn long_ways<S: Store<u32, NodeWeight = (), EdgeWeight = ()>>(rt: &impl Abort, a
     );
 }
 
-#[test]
-fn walks_over_a_graph(rt: HostRuntime) {
-    diamond::<DiGraph<(), (), u32>>(&rt, rt.alloc());
-    parallel_edges::<DiGraph<(), (), u32>>(&rt, rt.alloc());
-    cycles::<DiGraph<(), (), u32>>(&rt, rt.alloc());
-    long_ways::<DiGraph<(), (), u32>>(&rt, rt.alloc());
+fn all_shapes<S: Store<u32, NodeWeight = (), EdgeWeight = ()>>(rt: &impl Abort, alloc: Global) {
+    diamond::<S>(rt, alloc);
+    parallel_edges::<S>(rt, alloc);
+    cycles::<S>(rt, alloc);
+    long_ways::<S>(rt, alloc);
 }
 
-#[test]
-fn walks_over_a_stable_graph(rt: HostRuntime) {
-    diamond::<StableDiGraph<(), (), u32>>(&rt, rt.alloc());
-    parallel_edges::<StableDiGraph<(), (), u32>>(&rt, rt.alloc());
-    cycles::<StableDiGraph<(), (), u32>>(&rt, rt.alloc());
-    long_ways::<StableDiGraph<(), (), u32>>(&rt, rt.alloc());
-}
-
-#[test]
-fn walks_after_removals(rt: HostRuntime) {
-    let alloc = rt.alloc();
+// Walks past vacant slots.
+fn removals<S: Store<u32, NodeWeight = (), EdgeWeight = ()>>(rt: &impl Abort, alloc: Global) {
     let edges = [(0, 1), (1, 2), (0, 3), (3, 2), (2, 4)];
-    let mut graph = graph_of::<StableDiGraph<(), (), u32>>(&rt, alloc, 5, &edges);
-    holds(&rt, graph.remove_node(node(&rt, 1)).is_some());
+    let mut graph: S = graph_of(rt, alloc, 5, &edges);
+    holds(rt, graph.remove_node(node(rt, 1)).is_some());
     walks(
-        &rt,
+        rt,
         alloc,
         &graph,
         0,
         Outgoing,
         [&[0, 3, 2, 4], &[0, 3, 2, 4], &[4, 2, 3, 0]],
     );
-    walks(&rt, alloc, &graph, 1, Outgoing, [&[], &[], &[]]);
-    holds(&rt, graph.remove_node(node(&rt, 3)).is_some());
-    walks(&rt, alloc, &graph, 0, Outgoing, [&[0], &[0], &[0]]);
-    walks(&rt, alloc, &graph, 4, Incoming, [&[4, 2], &[4, 2], &[2, 4]]);
+    walks(rt, alloc, &graph, 1, Outgoing, [&[], &[], &[]]);
+    holds(rt, graph.remove_node(node(rt, 3)).is_some());
+    walks(rt, alloc, &graph, 0, Outgoing, [&[0], &[0], &[0]]);
+    walks(rt, alloc, &graph, 4, Incoming, [&[4, 2], &[4, 2], &[2, 4]]);
+}
+
+#[test]
+fn walks_over_a_graph(rt: HostRuntime) {
+    all_shapes::<DiGraph<(), (), u32>>(&rt, rt.alloc());
+}
+
+#[test]
+fn walks_over_a_stable_graph(rt: HostRuntime) {
+    all_shapes::<StableDiGraph<(), (), u32>>(&rt, rt.alloc());
+}
+
+#[test]
+fn walks_after_removals(rt: HostRuntime) {
+    removals::<StableDiGraph<(), (), u32>>(&rt, rt.alloc());
 }
