@@ -1,5 +1,7 @@
 //! What is done with a dag of either kind beside the calls of a table.
-use super::kinds::{Compact, Kind, Line, Plain, Stable};
+use super::closing::{close_chain, close_path};
+use super::kinds::{Compact, Kind, Line, Plain, Stable, Three};
+use super::retaining::{keep_edges, keep_nodes};
 use super::support::{edge, holds, made, node, same};
 use super::table::{Answer, Call, Row, play};
 use super::visiting::{read, reset, visit, write};
@@ -52,6 +54,20 @@ pub enum Act<'a> {
     Visit(usize),
     /// A set is reset for more nodes, of which these are added.
     Reset(u32),
+    /// The nodes of one weight are not retained, with these calls.
+    KeepNodes(u32, u64),
+    /// The same with edges.
+    KeepEdges(u32, u64),
+    /// Closures read the weights from tables: of a map, of a part with all nodes and edges, and of
+    /// an update. A table of calls is played over each.
+    Tables(&'a [u32], &'a [u32], &'a [Row<'a>]),
+    /// The weights of the second node and edge are written as they are lent, after which the first
+    /// three of each were these.
+    PutSecond(u32, u32, Three, Three),
+    /// A path is closed.
+    ClosePath,
+    /// A long chain is closed.
+    CloseChain,
 }
 
 fn copy<S: Kind>(rt: &impl Abort, alloc: Global, dag: &Plain<S>, rows: &[Row<'_>]) {
@@ -84,6 +100,45 @@ fn capacity<S: Kind>(rt: &impl Abort, alloc: Global, sizes: (usize, usize), rows
     play(rt, alloc, &mut dag, rows);
 }
 
+// Asserts that these are the indices and the weights of some nodes.
+fn are_nodes(rt: &impl Abort, indices: &[usize], weights: &[u32], nodes: &[(usize, u32)]) {
+    let count = nodes.len();
+    same(rt, (indices.len(), weights.len()), (count, count));
+    for ((n, weight), wanted) in indices.iter().zip(weights).zip(nodes) {
+        same(rt, (*n, *weight), *wanted);
+    }
+}
+
+// The same for edges.
+fn are_edges(rt: &impl Abort, indices: &[usize], weights: &[u32], edges: &[Line]) {
+    let count = edges.len();
+    same(rt, (indices.len(), weights.len()), (count, count));
+    for ((e, weight), (index, _, _, of)) in indices.iter().zip(weights).zip(edges) {
+        same(rt, (*e, *weight), (*index, *of));
+    }
+}
+
+fn tables<S: Kind>(
+    rt: &impl Abort,
+    alloc: Global,
+    dag: &mut Plain<S>,
+    (nodes, edges): (&[u32], &[u32]),
+    rows: &[Row<'_>],
+) {
+    match (
+        S::mapped_by(dag, nodes, edges),
+        S::part_by(dag, nodes, edges),
+    ) {
+        (Some(mapped), Some(part)) => {
+            play(rt, alloc, &mut made(rt, mapped), rows);
+            play(rt, alloc, &mut made(rt, part), rows);
+        }
+        _ => panic!(rt; "a table is too short"),
+    }
+    holds(rt, S::update_by(dag, nodes, edges));
+    play(rt, alloc, dag, rows);
+}
+
 fn through<S: Kind>(
     rt: &impl Abort,
     alloc: Global,
@@ -99,29 +154,9 @@ fn through<S: Kind>(
     );
     same(rt, made(rt, S::edges(alloc, dag)).as_slice(), edges);
     let (node_indices, edge_indices) = made(rt, S::indices(alloc, dag));
-    for (n, (wanted, _)) in node_indices.iter().zip(nodes) {
-        same(rt, *n, *wanted);
-    }
-    for (e, (wanted, _, _, _)) in edge_indices.iter().zip(edges) {
-        same(rt, *e, *wanted);
-    }
-    same(
-        rt,
-        (node_indices.len(), edge_indices.len()),
-        (nodes.len(), edges.len()),
-    );
     let (of_nodes, of_edges) = made(rt, S::weights(alloc, dag));
-    for (weight, (_, wanted)) in of_nodes.iter().zip(nodes) {
-        same(rt, *weight, *wanted);
-    }
-    for (weight, (_, _, _, wanted)) in of_edges.iter().zip(edges) {
-        same(rt, *weight, *wanted);
-    }
-    same(
-        rt,
-        (of_nodes.len(), of_edges.len()),
-        (nodes.len(), edges.len()),
-    );
+    are_nodes(rt, node_indices.as_slice(), of_nodes.as_slice(), nodes);
+    are_edges(rt, edge_indices.as_slice(), of_edges.as_slice(), edges);
 }
 
 fn along<S: Kind>(
@@ -154,6 +189,7 @@ fn apply<S: Kind>(rt: &impl Abort, alloc: Global, dag: &mut Plain<S>, act: Act<'
         Act::Capacity(nodes, edges, rows) => capacity::<S>(rt, alloc, (nodes, edges), rows),
         Act::Through(nodes, edges) => through(rt, alloc, dag, nodes, edges),
         Act::Along(n, dir, nodes, edges) => along(rt, alloc, dag, (n, dir), nodes, edges),
+        Act::Tables(nodes, edges, rows) => tables(rt, alloc, dag, (nodes, edges), rows),
         Act::NoCapacity(nodes, edges) => {
             holds(rt, S::with_capacity(alloc, nodes, edges).is_err());
         }
@@ -178,6 +214,19 @@ fn write_or_read<S: Kind>(rt: &impl Abort, dag: &mut Plain<S>, act: Act<'_>) {
         }
         Act::Visit(n) => visit(rt, dag, node(rt, n)),
         Act::Reset(more) => reset(rt, dag, more),
+        _ => keep_or_close(rt, dag, act),
+    }
+}
+
+fn keep_or_close<S: Kind>(rt: &impl Abort, dag: &mut Plain<S>, act: Act<'_>) {
+    match act {
+        Act::KeepNodes(without, noted) => keep_nodes(rt, dag, without, noted),
+        Act::KeepEdges(without, noted) => keep_edges(rt, dag, without, noted),
+        Act::PutSecond(node, edge, nodes, edges) => {
+            same(rt, S::put_second(dag, node, edge), (nodes, edges));
+        }
+        Act::ClosePath => close_path(rt, dag),
+        Act::CloseChain => close_chain(rt, dag),
         _ => panic!(rt; "there is no such act"),
     }
 }

@@ -4,7 +4,7 @@ use super::table::{Answer, Call, Row, Scene, both, compact, is, stable};
 use daggy_base::index::{EdgeIndex, IndexType, NodeIndex};
 use daggy_base::store::Store;
 use daggy_dag::acyclic::Acyclic;
-use std::alloc::Global;
+use std::alloc::{AllocError, Global};
 use std::process::Abort;
 
 /// A question about some nodes.
@@ -67,30 +67,12 @@ pub fn ask<Ix: IndexType, S: Store<Ix, NodeWeight = u32, EdgeWeight = u32>>(
     wanted: Answer<'_>,
 ) {
     match question {
-        Question::Reaches(a, b) => is(rt, yes(dag.reaches(node(rt, a), node(rt, b))), wanted),
-        Question::ClosesCycle(a, b) => {
-            is(
-                rt,
-                yes(dag.would_close_cycle(node(rt, a), node(rt, b))),
-                wanted,
-            );
-        }
-        Question::Joined(a, b) => is(rt, yes(dag.contains_edge(node(rt, a), node(rt, b))), wanted),
-        Question::Before(a, b) => is(rt, yes(dag.stands_before(node(rt, a), node(rt, b))), wanted),
-        Question::Affected(given) => {
-            let given = nodes(rt, alloc, given);
-            let found = made(rt, dag.affected(given.as_slice()));
-            are(rt, alloc, found.as_slice(), wanted);
-        }
-        Question::Descendants(given) => {
-            let given = nodes(rt, alloc, given);
-            let found = made(rt, dag.descendants(given.as_slice()));
-            are(rt, alloc, found.as_slice(), wanted);
-        }
-        Question::Ancestors(given) => {
-            let given = nodes(rt, alloc, given);
-            let found = made(rt, dag.ancestors(given.as_slice()));
-            are(rt, alloc, found.as_slice(), wanted);
+        Question::Reaches(a, b)
+        | Question::ClosesCycle(a, b)
+        | Question::Joined(a, b)
+        | Question::Before(a, b) => {
+            let (a, b) = (node(rt, a), node(rt, b));
+            is(rt, yes(is_so(dag, question, a, b)), wanted);
         }
         Question::Path(a, b) => match made(rt, dag.path(node(rt, a), node(rt, b))) {
             Some(path) => are(rt, alloc, path.as_slice(), wanted),
@@ -100,6 +82,39 @@ pub fn ask<Ix: IndexType, S: Store<Ix, NodeWeight = u32, EdgeWeight = u32>>(
             Some(edges) => are_edges(rt, alloc, edges.as_slice(), wanted),
             None => is(rt, Answer::Nothing, wanted),
         },
+        Question::Affected(given) | Question::Descendants(given) | Question::Ancestors(given) => {
+            let given = nodes(rt, alloc, given);
+            let found = made(rt, listed(dag, question, given.as_slice()));
+            are(rt, alloc, found.as_slice(), wanted);
+        }
+    }
+}
+
+// The answer of a question about two nodes.
+fn is_so<Ix: IndexType, S: Store<Ix, NodeWeight = u32, EdgeWeight = u32>>(
+    dag: &mut Acyclic<u32, u32, Ix, S>,
+    question: Question<'_>,
+    a: NodeIndex<Ix>,
+    b: NodeIndex<Ix>,
+) -> bool {
+    match question {
+        Question::Reaches(_, _) => dag.reaches(a, b),
+        Question::ClosesCycle(_, _) => dag.would_close_cycle(a, b),
+        Question::Joined(_, _) => dag.contains_edge(a, b),
+        _ => dag.stands_before(a, b),
+    }
+}
+
+// The nodes that a question about some nodes is answered with.
+fn listed<Ix: IndexType, S: Store<Ix, NodeWeight = u32, EdgeWeight = u32>>(
+    dag: &mut Acyclic<u32, u32, Ix, S>,
+    question: Question<'_>,
+    given: &[NodeIndex<Ix>],
+) -> Result<Vec<NodeIndex<Ix>>, AllocError> {
+    match question {
+        Question::Affected(_) => dag.affected(given),
+        Question::Descendants(_) => dag.descendants(given),
+        _ => dag.ancestors(given),
     }
 }
 

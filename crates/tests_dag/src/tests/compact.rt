@@ -1,12 +1,10 @@
 //! Capacity, and what only compact dags have: room that is reserved and given back, slices of all
 //! nodes and edges, and all weights written in a row.
-use super::acts::{Act, TRIANGLE, both, dag_of};
-use super::kinds::{Compact, Plain, note};
-use super::support::{holds, made, same};
+use super::acts::{Act, TRIANGLE, both, compact, dag_of};
+use super::kinds::{Compact, Plain, Three, note};
+use super::support::{holds, same};
 use super::table::{Answer, Call, Row, play};
 use daggy_base::index::{Direction, EdgeIndex, NodeIndex};
-use daggy_base::source::EdgeSource;
-use daggy_walk::visit::NodeIndexable;
 use std::cell::Cell;
 
 const AGAIN: [Row<'static>; 7] = [
@@ -89,28 +87,16 @@ fn an_update_shows_each_node_or_each_edge(rt: HostRuntime) {
 
 #[test]
 fn closures_read_tables_of_the_size_of_a_compact_dag(rt: HostRuntime) {
-    const ROWS: &[Row<'static>] = &[
-        (Call::Weight(0), Answer::Weight(5)),
-        (Call::Weight(2), Answer::Weight(7)),
-        (Call::Stored(1), Answer::Stored(0, 2, 9)),
-    ];
-    let mut dag: Plain<Compact> = dag_of(&rt, rt.alloc(), &TRIANGLE);
-    let (nodes, edges) = ([5, 6, 7], [8, 9, 10]);
-    holds(&rt, dag.node_bound() <= nodes.len());
-    holds(&rt, dag.graph().edge_bound() <= edges.len());
-    let mut mapped = made(
-        &rt,
-        dag.map(|n, _| nodes[n.index()], |e, _| edges[e.index()]),
-    );
-    play(&rt, rt.alloc(), &mut mapped, ROWS);
-    let mut part = made(
-        &rt,
-        dag.filter_map(|n, _| Some(nodes[n.index()]), |e, _| Some(edges[e.index()])),
-    );
-    play(&rt, rt.alloc(), &mut part, ROWS);
-    dag.update_node_weights(|n, weight| *weight = nodes[n.index()]);
-    dag.update_edge_weights(|e, weight| *weight = edges[e.index()]);
-    play(&rt, rt.alloc(), &mut dag, ROWS);
+    const ACTS: &[Act<'static>] = &[Act::Tables(
+        &[5, 6, 7],
+        &[8, 9, 10],
+        &[
+            (Call::Weight(0), Answer::Weight(5)),
+            (Call::Weight(2), Answer::Weight(7)),
+            (Call::Stored(1), Answer::Stored(0, 2, 9)),
+        ],
+    )];
+    compact(&rt, rt.alloc(), &TRIANGLE, ACTS);
 }
 
 #[test]
@@ -129,26 +115,16 @@ fn slices_follow_a_removal(rt: HostRuntime) {
 
 #[test]
 fn weights_are_lent_in_order(rt: HostRuntime) {
-    const ROWS: &[Row<'static>] = &[
-        (Call::Weight(0), Answer::Weight(10)),
-        (Call::Weight(1), Answer::Weight(21)),
-        (Call::Stored(0), Answer::Stored(0, 1, 100)),
-        (Call::Stored(1), Answer::Stored(0, 2, 30)),
+    const NODES: Three = (Some(10), Some(11), Some(12));
+    const EDGES: Three = (Some(100), Some(101), Some(102));
+    const ACTS: &[Act<'static>] = &[
+        Act::PutSecond(21, 30, NODES, EDGES),
+        Act::Rows(&[
+            (Call::Weight(0), Answer::Weight(10)),
+            (Call::Weight(1), Answer::Weight(21)),
+            (Call::Stored(0), Answer::Stored(0, 1, 100)),
+            (Call::Stored(1), Answer::Stored(0, 2, 30)),
+        ]),
     ];
-    let mut dag: Plain<Compact> = dag_of(&rt, rt.alloc(), &TRIANGLE);
-    let mut nodes = dag.node_weights_mut();
-    same(&rt, nodes.next().copied(), Some(10));
-    if let Some(weight) = nodes.next() {
-        *weight = 21;
-    }
-    same(&rt, nodes.next().copied(), Some(12));
-    same(&rt, nodes.next().copied(), None);
-    let mut edges = dag.edge_weights_mut();
-    same(&rt, edges.next().copied(), Some(100));
-    if let Some(weight) = edges.next() {
-        *weight = 30;
-    }
-    same(&rt, edges.next().copied(), Some(102));
-    same(&rt, edges.next().copied(), None);
-    play(&rt, rt.alloc(), &mut dag, ROWS);
+    compact(&rt, rt.alloc(), &TRIANGLE, ACTS);
 }

@@ -1,10 +1,10 @@
 //! Which dags have the same reachability.
 use super::acts::dag_of;
-use super::kinds::{Compact, Plain};
+use super::kinds::{Compact, Kind, Plain};
 use super::support::{made, same};
 use super::table::{Answer, Call, Row};
 use daggy_dag::acyclic::same_reachability;
-use std::alloc::Global;
+use std::alloc::{AllocError, Global};
 use std::process::Abort;
 
 const LONG_WAY_AND_SHORT: &[Row<'static>] = &[
@@ -35,11 +35,31 @@ const ONE_NODE: &[Row<'static>] = &[(Call::Nodes(1), Answer::Done)];
 
 const TWO_NODES: &[Row<'static>] = &[(Call::Nodes(2), Answer::Done)];
 
+// A store whose dags are compared.
+trait Compared: Kind {
+    fn is_alike(a: &Plain<Self>, b: &Plain<Self>) -> Result<bool, AllocError>;
+}
+
+impl Compared for Compact {
+    fn is_alike(a: &Plain<Self>, b: &Plain<Self>) -> Result<bool, AllocError> {
+        same_reachability(a, b)
+    }
+}
+
+fn compare<S: Compared>(
+    rt: &impl Abort,
+    alloc: Global,
+    (a, b): (&[Row<'_>], &[Row<'_>]),
+    wanted: bool,
+) {
+    let a: Plain<S> = dag_of(rt, alloc, a);
+    let b: Plain<S> = dag_of(rt, alloc, b);
+    same(rt, made(rt, S::is_alike(&a, &b)), wanted);
+    same(rt, made(rt, S::is_alike(&b, &a)), wanted);
+}
+
 fn compares(rt: &impl Abort, alloc: Global, a: &[Row<'_>], b: &[Row<'_>], wanted: bool) {
-    let a: Plain<Compact> = dag_of(rt, alloc, a);
-    let b: Plain<Compact> = dag_of(rt, alloc, b);
-    same(rt, made(rt, same_reachability(&a, &b)), wanted);
-    same(rt, made(rt, same_reachability(&b, &a)), wanted);
+    compare::<Compact>(rt, alloc, (a, b), wanted);
 }
 
 #[test]

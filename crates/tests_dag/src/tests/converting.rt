@@ -1,10 +1,10 @@
 //! The graph that a dag becomes, and the dag of the other kind.
 use super::acts::dag_of;
-use super::kinds::{Compact, Kind, Plain, Stable};
-use super::support::{holds, made, same};
+use super::kinds::{Compact, CompactTexts, Kind, Plain, Stable, StableTexts, TextDag, TextKind};
+use super::support::{holds, made, reads, same, text};
 use super::table::{Answer, Call, Row, play};
 use daggy_base::index::NodeIndex;
-use daggy_dag::acyclic::{Dag, StableDag};
+use daggy_dag::acyclic::{Acyclic, Dag, StableDag};
 use daggy_graph::graph::DiGraph;
 use daggy_stable::stable_graph::StableDiGraph;
 use std::alloc::Global;
@@ -32,23 +32,15 @@ fn pair<S: Kind>(rt: &impl Abort, alloc: Global) -> Plain<S> {
     dag_of(rt, alloc, &PAIR)
 }
 
-fn convert<S: Kind>(rt: &impl Abort, alloc: Global) {
-    let store: S = pair(rt, alloc).into_graph();
-    may_hold_cycles(rt, store);
+fn convert<S: Kind + From<Plain<S>>>(rt: &impl Abort, alloc: Global) {
+    may_hold_cycles::<S>(rt, pair(rt, alloc).into_graph());
+    may_hold_cycles(rt, S::from(pair(rt, alloc)));
 }
 
 #[test]
 fn a_graph_that_was_a_dag_may_hold_cycles(rt: HostRuntime) {
     convert::<Compact>(&rt, rt.alloc());
     convert::<Stable>(&rt, rt.alloc());
-}
-
-#[test]
-fn a_dag_converts_to_a_graph(rt: HostRuntime) {
-    let graph: Compact = DiGraph::from(pair::<Compact>(&rt, rt.alloc()));
-    may_hold_cycles(&rt, graph);
-    let graph: Stable = StableDiGraph::from(pair::<Stable>(&rt, rt.alloc()));
-    may_hold_cycles(&rt, graph);
 }
 
 #[test]
@@ -92,42 +84,29 @@ fn a_compact_dag_keeps_its_lists(rt: HostRuntime) {
     play(&rt, rt.alloc(), &mut dag, AFTER);
 }
 
-fn text(rt: &impl Abort, alloc: Global, text: &str) -> String {
-    made(rt, text.to_string(alloc))
+// A copy of two nodes and the edge between them keeps all three texts when one of the nodes is
+// removed.
+fn copy_texts<S: TextKind>(rt: &impl Abort, alloc: Global) {
+    let mut dag: TextDag<S> = Acyclic::new(alloc);
+    let a = made(rt, dag.add_node(text(rt, alloc, "sow")));
+    let (then, reap) = (text(rt, alloc, "then"), text(rt, alloc, "reap"));
+    let (e, b) = made(rt, dag.add_child(a, then, reap));
+    let copy = made(rt, S::copied(&dag));
+    same(rt, dag.remove_node(b).is_some(), true);
+    reads(rt, copy.node_weight(a), "sow");
+    reads(rt, copy.node_weight(b), "reap");
+    reads(rt, copy.edge_weight(e), "then");
+    same(rt, copy.find_edge(a, b), Some(e));
 }
 
 #[test]
 fn a_compact_dag_of_texts_is_copied(rt: HostRuntime) {
-    let alloc = rt.alloc();
-    let mut dag: Dag<String, String, u8> = Dag::new(alloc);
-    let a = made(&rt, dag.add_node(text(&rt, alloc, "sow")));
-    let (e, b) = made(
-        &rt,
-        dag.add_child(a, text(&rt, alloc, "then"), text(&rt, alloc, "reap")),
-    );
-    let copy = made(&rt, dag.try_clone());
-    same(&rt, dag.remove_node(b).is_some(), true);
-    same(&rt, copy.node_weight(a).map(|w| w.as_str()), Some("sow"));
-    same(&rt, copy.node_weight(b).map(|w| w.as_str()), Some("reap"));
-    same(&rt, copy.edge_weight(e).map(|w| w.as_str()), Some("then"));
-    same(&rt, copy.find_edge(a, b), Some(e));
+    copy_texts::<CompactTexts>(&rt, rt.alloc());
 }
 
 #[test]
 fn a_stable_dag_of_texts_is_copied(rt: HostRuntime) {
-    let alloc = rt.alloc();
-    let mut dag: StableDag<String, String, u8> = StableDag::new(alloc);
-    let a = made(&rt, dag.add_node(text(&rt, alloc, "sow")));
-    let (e, b) = made(
-        &rt,
-        dag.add_child(a, text(&rt, alloc, "then"), text(&rt, alloc, "reap")),
-    );
-    let copy = made(&rt, dag.try_clone());
-    same(&rt, dag.remove_node(b).is_some(), true);
-    same(&rt, copy.node_weight(a).map(|w| w.as_str()), Some("sow"));
-    same(&rt, copy.node_weight(b).map(|w| w.as_str()), Some("reap"));
-    same(&rt, copy.edge_weight(e).map(|w| w.as_str()), Some("then"));
-    same(&rt, copy.find_edge(a, b), Some(e));
+    copy_texts::<StableTexts>(&rt, rt.alloc());
 }
 
 // A struct of a user's own, which derives its copies.

@@ -1,11 +1,6 @@
 //! Copies, maps and parts of a dag, and in which order their closures are called, and how often.
-use super::acts::{Act, TRIANGLE, both, compact, dag_of, stable};
-use super::kinds::{Plain, Stable};
-use super::support::{holds, made, same};
-use super::table::{Answer, Call, Row, play};
-use daggy_base::index::EdgeIndex;
-use daggy_base::source::EdgeSource;
-use daggy_walk::visit::NodeIndexable;
+use super::acts::{Act, TRIANGLE, both, compact, stable};
+use super::table::{Answer, Call, Row};
 
 #[test]
 fn a_map_shows_each_node_and_then_each_edge(rt: HostRuntime) {
@@ -204,25 +199,18 @@ fn copies_and_parts_are_ordered_alike(rt: HostRuntime) {
 
 #[test]
 fn closures_read_tables_of_the_size_of_a_stable_dag(rt: HostRuntime) {
-    const ROWS: &[Row<'static>] = &[
-        (Call::Weight(0), Answer::Weight(5)),
-        (Call::Weight(2), Answer::Weight(7)),
-        (Call::Stored(2), Answer::Stored(1, 2, 10)),
-        (Call::Edge(0, 1, 3), Answer::Edge(1)),
+    const ACTS: &[Act<'static>] = &[
+        Act::Rows(&[(Call::RemoveEdge(1), Answer::Weight(101))]),
+        Act::Tables(
+            &[5, 6, 7],
+            &[8, 9, 10],
+            &[
+                (Call::Weight(0), Answer::Weight(5)),
+                (Call::Weight(2), Answer::Weight(7)),
+                (Call::Stored(2), Answer::Stored(1, 2, 10)),
+                (Call::Edge(0, 1, 3), Answer::Edge(1)),
+            ],
+        ),
     ];
-    let mut dag: Plain<Stable> = dag_of(&rt, rt.alloc(), &TRIANGLE);
-    same(&rt, dag.remove_edge(EdgeIndex::new(1)), Some(101));
-    let (nodes, edges) = ([5, 6, 7], [8, 9, 10]);
-    holds(&rt, dag.node_bound() <= nodes.len());
-    holds(&rt, dag.graph().edge_bound() <= edges.len());
-    let mut mapped = made(
-        &rt,
-        dag.map(|n, _| nodes[n.index()], |e, _| edges[e.index()]),
-    );
-    play(&rt, rt.alloc(), &mut mapped, ROWS);
-    let mut part = made(
-        &rt,
-        dag.filter_map(|n, _| Some(nodes[n.index()]), |e, _| Some(edges[e.index()])),
-    );
-    play(&rt, rt.alloc(), &mut part, ROWS);
+    stable(&rt, rt.alloc(), &TRIANGLE, ACTS);
 }

@@ -5,13 +5,16 @@
 ghost use Rattle.std.specs.Iterator.{IsFinite};
 
 use daggy_base::index::{Direction, EdgeIndex, NodeIndex};
+use daggy_base::source::EdgeSource;
 use daggy_base::store::Store;
 use daggy_cells::reference::EdgeReference;
 use daggy_dag::acyclic::Acyclic;
 use daggy_graph::graph::DiGraph;
 use daggy_stable::stable_graph::StableDiGraph;
+use daggy_walk::visit::NodeIndexable;
 use std::alloc::{AllocError, Global};
 use std::cell::Cell;
+use std::mem;
 
 /// A dag of either kind that has few indices.
 pub type Plain<S> = Acyclic<u32, u32, u8, S>;
@@ -24,6 +27,12 @@ pub type Stable = StableDiGraph<u32, u32, u8>;
 
 /// An edge: its index, the indices of its ends, and its weight.
 pub type Line = (usize, usize, usize, u32);
+
+/// A new dag, if there is memory for it.
+pub type Made<S> = Result<Plain<S>, AllocError>;
+
+/// Three weights, or fewer.
+pub type Three = (Option<u32>, Option<u32>, Option<u32>);
 
 /// A store of numbers, with the calls that only dags of one kind have.
 pub trait Kind: Store<u8, NodeWeight = u32, EdgeWeight = u32> {
@@ -38,6 +47,19 @@ pub trait Kind: Store<u8, NodeWeight = u32, EdgeWeight = u32> {
 
     /// The part of a dag without the nodes of one weight. The calls of its closures are noted.
     fn part(dag: &Plain<Self>, without: u32, noted: &mut u64) -> Result<Plain<Self>, AllocError>;
+
+    /// A dag with the weights that tables have for all indices, or `None` if they are too short.
+    fn mapped_by(dag: &Plain<Self>, nodes: &[u32], edges: &[u32]) -> Option<Made<Self>>;
+
+    /// The same by a part of the dag that has all nodes and edges.
+    fn part_by(dag: &Plain<Self>, nodes: &[u32], edges: &[u32]) -> Option<Made<Self>>;
+
+    /// Writes the weights that tables have. Returns false if they are too short.
+    fn update_by(dag: &mut Plain<Self>, nodes: &[u32], edges: &[u32]) -> bool;
+
+    /// Writes the weights of the second node and the second edge that are lent, and returns the
+    /// weights of the first three nodes and edges before that.
+    fn put_second(dag: &mut Plain<Self>, node: u32, edge: u32) -> (Three, Three);
 
     /// Adds 100 to the weight of a node and 200 to that of another, if both exist, and gives what
     /// the first was.
@@ -117,6 +139,14 @@ fn raised(x: &mut u32, y: &mut u32) -> u32 {
     *x = before.wrapping_add(100);
     *y = y.wrapping_add(200);
     before
+}
+
+// Writes a weight that is lent, and returns what it was.
+fn put(lent: Option<&mut u32>, weight: u32) -> Option<u32> {
+    match lent {
+        Some(slot) => Some(mem::replace(slot, weight)),
+        None => None,
+    }
 }
 
 fn line(e: EdgeReference<'_, u32, u8>) -> Line {
@@ -202,10 +232,45 @@ impl Kind for Compact {
         part
     }
 
+    fn mapped_by(dag: &Plain<Self>, nodes: &[u32], edges: &[u32]) -> Option<Made<Self>> {
+        if dag.node_bound() > nodes.len() || dag.graph().edge_bound() > edges.len() {
+            return None;
+        }
+        Some(dag.map(|n, _| nodes[n.index()], |e, _| edges[e.index()]))
+    }
+
+    fn part_by(dag: &Plain<Self>, nodes: &[u32], edges: &[u32]) -> Option<Made<Self>> {
+        if dag.node_bound() > nodes.len() || dag.graph().edge_bound() > edges.len() {
+            return None;
+        }
+        Some(dag.filter_map(|n, _| Some(nodes[n.index()]), |e, _| Some(edges[e.index()])))
+    }
+
+    fn update_by(dag: &mut Plain<Self>, nodes: &[u32], edges: &[u32]) -> bool {
+        if dag.node_bound() > nodes.len() || dag.graph().edge_bound() > edges.len() {
+            return false;
+        }
+        dag.update_node_weights(|n, weight| *weight = nodes[n.index()]);
+        dag.update_edge_weights(|e, weight| *weight = edges[e.index()]);
+        true
+    }
+
+    fn put_second(dag: &mut Plain<Self>, node: u32, edge: u32) -> (Three, Three) {
+        let mut nodes = dag.node_weights_mut();
+        let first = nodes.next().copied();
+        let of_nodes = (first, put(nodes.next(), node), nodes.next().copied());
+        let mut edges = dag.edge_weights_mut();
+        let first = edges.next().copied();
+        (
+            of_nodes,
+            (first, put(edges.next(), edge), edges.next().copied()),
+        )
+    }
+
     fn raise_nodes(dag: &mut Plain<Self>, a: usize, b: usize) -> Option<u32> {
         let (a, b) = (small_node(a), small_node(b));
         if a.index() != b.index() && dag.contains_node(a) && dag.contains_node(b) {
-            return Some(dag.update_two_nodes(a, b, |x, y| raised(x, y)));
+            return Some(dag.update_two_nodes(a, b, raised));
         }
         None
     }
@@ -213,7 +278,7 @@ impl Kind for Compact {
     fn raise_edges(dag: &mut Plain<Self>, a: usize, b: usize) -> Option<u32> {
         let (a, b) = (small_edge(a), small_edge(b));
         if a.index() != b.index() && dag.edge_weight(a).is_some() && dag.edge_weight(b).is_some() {
-            return Some(dag.update_two_edges(a, b, |x, y| raised(x, y)));
+            return Some(dag.update_two_edges(a, b, raised));
         }
         None
     }
@@ -221,7 +286,7 @@ impl Kind for Compact {
     fn raise_both(dag: &mut Plain<Self>, n: usize, e: usize) -> Option<u32> {
         let (n, e) = (small_node(n), small_edge(e));
         if dag.contains_node(n) && dag.edge_weight(e).is_some() {
-            return Some(dag.update_node_and_edge(n, e, |x, y| raised(x, y)));
+            return Some(dag.update_node_and_edge(n, e, raised));
         }
         None
     }
@@ -306,10 +371,45 @@ impl Kind for Stable {
         part
     }
 
+    fn mapped_by(dag: &Plain<Self>, nodes: &[u32], edges: &[u32]) -> Option<Made<Self>> {
+        if dag.node_bound() > nodes.len() || dag.graph().edge_bound() > edges.len() {
+            return None;
+        }
+        Some(dag.map(|n, _| nodes[n.index()], |e, _| edges[e.index()]))
+    }
+
+    fn part_by(dag: &Plain<Self>, nodes: &[u32], edges: &[u32]) -> Option<Made<Self>> {
+        if dag.node_bound() > nodes.len() || dag.graph().edge_bound() > edges.len() {
+            return None;
+        }
+        Some(dag.filter_map(|n, _| Some(nodes[n.index()]), |e, _| Some(edges[e.index()])))
+    }
+
+    fn update_by(dag: &mut Plain<Self>, nodes: &[u32], edges: &[u32]) -> bool {
+        if dag.node_bound() > nodes.len() || dag.graph().edge_bound() > edges.len() {
+            return false;
+        }
+        dag.update_node_weights(|n, weight| *weight = nodes[n.index()]);
+        dag.update_edge_weights(|e, weight| *weight = edges[e.index()]);
+        true
+    }
+
+    fn put_second(dag: &mut Plain<Self>, node: u32, edge: u32) -> (Three, Three) {
+        let mut nodes = dag.node_weights_mut();
+        let first = nodes.next().copied();
+        let of_nodes = (first, put(nodes.next(), node), nodes.next().copied());
+        let mut edges = dag.edge_weights_mut();
+        let first = edges.next().copied();
+        (
+            of_nodes,
+            (first, put(edges.next(), edge), edges.next().copied()),
+        )
+    }
+
     fn raise_nodes(dag: &mut Plain<Self>, a: usize, b: usize) -> Option<u32> {
         let (a, b) = (small_node(a), small_node(b));
         if a.index() != b.index() && dag.contains_node(a) && dag.contains_node(b) {
-            return Some(dag.update_two_nodes(a, b, |x, y| raised(x, y)));
+            return Some(dag.update_two_nodes(a, b, raised));
         }
         None
     }
@@ -317,7 +417,7 @@ impl Kind for Stable {
     fn raise_edges(dag: &mut Plain<Self>, a: usize, b: usize) -> Option<u32> {
         let (a, b) = (small_edge(a), small_edge(b));
         if a.index() != b.index() && dag.edge_weight(a).is_some() && dag.edge_weight(b).is_some() {
-            return Some(dag.update_two_edges(a, b, |x, y| raised(x, y)));
+            return Some(dag.update_two_edges(a, b, raised));
         }
         None
     }
@@ -325,7 +425,7 @@ impl Kind for Stable {
     fn raise_both(dag: &mut Plain<Self>, n: usize, e: usize) -> Option<u32> {
         let (n, e) = (small_node(n), small_edge(e));
         if dag.contains_node(n) && dag.edge_weight(e).is_some() {
-            return Some(dag.update_node_and_edge(n, e, |x, y| raised(x, y)));
+            return Some(dag.update_node_and_edge(n, e, raised));
         }
         None
     }
@@ -378,5 +478,49 @@ impl Kind for Stable {
             Some(dir) => list_of(alloc, dag.edges_directed(n, dir).map(line)),
             None => list_of(alloc, dag.edges(n).map(line)),
         }
+    }
+}
+
+/// A dag of texts, which own their memory.
+pub type TextDag<S> = Acyclic<String, String, u8, S>;
+
+/// The store of a compact dag of texts.
+pub type CompactTexts = DiGraph<String, String, u8>;
+
+/// The store of a stable dag of texts.
+pub type StableTexts = StableDiGraph<String, String, u8>;
+
+/// A store of texts, with the calls that only dags of one kind have.
+pub trait TextKind: Store<u8, NodeWeight = String, EdgeWeight = String> {
+    /// A copy of a dag.
+    fn copied(dag: &TextDag<Self>) -> Result<TextDag<Self>, AllocError>;
+
+    /// Writes the text of the first node, and empties the texts of all edges.
+    fn rewrite(dag: &mut TextDag<Self>, text: String);
+}
+
+impl TextKind for CompactTexts {
+    fn copied(dag: &TextDag<Self>) -> Result<TextDag<Self>, AllocError> {
+        dag.try_clone()
+    }
+
+    fn rewrite(dag: &mut TextDag<Self>, text: String) {
+        if let Some(first) = dag.node_weights_mut().next() {
+            *first = text;
+        }
+        dag.update_edge_weights(|_, text| text.clear());
+    }
+}
+
+impl TextKind for StableTexts {
+    fn copied(dag: &TextDag<Self>) -> Result<TextDag<Self>, AllocError> {
+        dag.try_clone()
+    }
+
+    fn rewrite(dag: &mut TextDag<Self>, text: String) {
+        if let Some(first) = dag.node_weights_mut().next() {
+            *first = text;
+        }
+        dag.update_edge_weights(|_, text| text.clear());
     }
 }

@@ -1,36 +1,31 @@
 //! Dags of which a closure keeps some nodes, or some edges.
-use super::acts::{TRIANGLE, dag_of};
-use super::kinds::{Compact, Kind, Plain, Stable, note};
+use super::acts::{Act, TRIANGLE, both, compact, dag_of, stable};
+use super::kinds::{Compact, Kind, Plain, note};
 use super::support::{holds, same};
-use super::table::{Answer, Call, Row, play};
+use super::table::{Answer, Call, Row};
 use daggy_base::source::EdgeSource;
 use daggy_walk::visit::NodeIndexable;
-use std::alloc::Global;
 use std::cell::Cell;
 use std::process::Abort;
 
-// Keeps the nodes of a triangle but those of one weight, and asserts what is left.
-fn keeps_nodes<S: Kind>(rt: &impl Abort, alloc: Global, without: u32, left: &[Row<'_>]) {
-    let mut dag: Plain<S> = dag_of(rt, alloc, &TRIANGLE);
+/// Keeps the nodes but those of one weight, with these calls.
+pub fn keep_nodes<S: Kind>(rt: &impl Abort, dag: &mut Plain<S>, without: u32, noted: u64) {
     let calls = Cell::new(0);
     dag.retain_nodes(|n, weight| {
         note(&calls, 1, n.index());
         *weight != without
     });
-    same(rt, calls.get(), 121110);
-    play(rt, alloc, &mut dag, left);
+    same(rt, calls.get(), noted);
 }
 
-// The same for its edges.
-fn keeps_edges<S: Kind>(rt: &impl Abort, alloc: Global, without: u32, left: &[Row<'_>]) {
-    let mut dag: Plain<S> = dag_of(rt, alloc, &TRIANGLE);
+/// The same for edges.
+pub fn keep_edges<S: Kind>(rt: &impl Abort, dag: &mut Plain<S>, without: u32, noted: u64) {
     let calls = Cell::new(0);
     dag.retain_edges(|e, weight| {
         note(&calls, 2, e.index());
         *weight != without
     });
-    same(rt, calls.get(), 222120);
-    play(rt, alloc, &mut dag, left);
+    same(rt, calls.get(), noted);
 }
 
 #[test]
@@ -49,8 +44,9 @@ fn nodes_that_are_not_kept_go_with_their_edges(rt: HostRuntime) {
         (Call::Stored(1), Answer::Stored(0, 2, 101)),
         (Call::Edge(2, 0, 7), Answer::Cycle(7)),
     ];
-    keeps_nodes::<Compact>(&rt, rt.alloc(), 11, COMPACT);
-    keeps_nodes::<Stable>(&rt, rt.alloc(), 11, STABLE);
+    const KEEP: Act<'static> = Act::KeepNodes(11, 121110);
+    compact(&rt, rt.alloc(), &TRIANGLE, &[KEEP, Act::Rows(COMPACT)]);
+    stable(&rt, rt.alloc(), &TRIANGLE, &[KEEP, Act::Rows(STABLE)]);
 }
 
 #[test]
@@ -67,25 +63,21 @@ fn edges_that_are_not_kept_go(rt: HostRuntime) {
         (Call::Stored(2), Answer::Stored(1, 2, 102)),
         (Call::Edge(1, 0, 7), Answer::Edge(0)),
     ];
-    keeps_edges::<Compact>(&rt, rt.alloc(), 100, COMPACT);
-    keeps_edges::<Stable>(&rt, rt.alloc(), 100, STABLE);
+    const KEEP: Act<'static> = Act::KeepEdges(100, 222120);
+    compact(&rt, rt.alloc(), &TRIANGLE, &[KEEP, Act::Rows(COMPACT)]);
+    stable(&rt, rt.alloc(), &TRIANGLE, &[KEEP, Act::Rows(STABLE)]);
 }
 
 #[test]
 fn all_is_kept_and_nothing_is_asked_of_an_empty_dag(rt: HostRuntime) {
-    let mut dag: Plain<Stable> = dag_of(&rt, rt.alloc(), &[]);
-    let calls = Cell::new(0);
-    dag.retain_nodes(|n, _| {
-        note(&calls, 1, n.index());
-        false
-    });
-    dag.retain_edges(|e, _| {
-        note(&calls, 2, e.index());
-        false
-    });
-    same(&rt, calls.get(), 0);
-    keeps_nodes::<Compact>(&rt, rt.alloc(), 0, &[(Call::Counts, Answer::Counts(3, 3))]);
-    keeps_edges::<Stable>(&rt, rt.alloc(), 0, &[(Call::Counts, Answer::Counts(3, 3))]);
+    const NOTHING: &[Act<'static>] = &[Act::KeepNodes(0, 0), Act::KeepEdges(0, 0)];
+    const ALL: &[Act<'static>] = &[
+        Act::KeepNodes(0, 121110),
+        Act::KeepEdges(0, 222120),
+        Act::Rows(&[(Call::Counts, Answer::Counts(3, 3))]),
+    ];
+    stable(&rt, rt.alloc(), &[], NOTHING);
+    both(&rt, rt.alloc(), &TRIANGLE, ALL);
 }
 
 #[test]

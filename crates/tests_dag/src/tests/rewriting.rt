@@ -1,12 +1,10 @@
 //! All weights of a stable dag that has vacant slots, written in a row.
-use super::acts::{TRIANGLE, dag_of};
-use super::kinds::{Plain, Stable, note};
-use super::support::{holds, made, same};
+use super::acts::{Act, TRIANGLE, dag_of, stable};
+use super::kinds::{Plain, Stable, StableTexts, TextDag, TextKind, note};
+use super::support::{made, reads, same, text};
 use super::table::{Answer, Call, Row, play};
 use daggy_base::index::{Direction, NodeIndex};
-use daggy_base::source::EdgeSource;
-use daggy_dag::acyclic::StableDag;
-use daggy_walk::visit::NodeIndexable;
+use daggy_dag::acyclic::Acyclic;
 use std::alloc::Global;
 use std::cell::Cell;
 use std::process::Abort;
@@ -18,28 +16,22 @@ fn cut_triangle(rt: &impl Abort, alloc: Global) -> Plain<Stable> {
     dag
 }
 
+const CUT: Act<'static> = Act::Rows(&[(Call::RemoveNode(1), Answer::Weight(11))]);
+
 #[test]
 fn weights_are_lent_past_vacant_slots(rt: HostRuntime) {
-    const ROWS: &[Row<'static>] = &[
-        (Call::Weight(0), Answer::Weight(10)),
-        (Call::Weight(1), Answer::Nothing),
-        (Call::Weight(2), Answer::Weight(22)),
-        (Call::Stored(1), Answer::Stored(0, 2, 30)),
-        (Call::Node(13), Answer::Node(1)),
+    const ACTS: &[Act<'static>] = &[
+        CUT,
+        Act::PutSecond(22, 30, (Some(10), Some(12), None), (Some(101), None, None)),
+        Act::Rows(&[
+            (Call::Weight(0), Answer::Weight(10)),
+            (Call::Weight(1), Answer::Nothing),
+            (Call::Weight(2), Answer::Weight(22)),
+            (Call::Stored(1), Answer::Stored(0, 2, 101)),
+            (Call::Node(13), Answer::Node(1)),
+        ]),
     ];
-    let mut dag = cut_triangle(&rt, rt.alloc());
-    let mut nodes = dag.node_weights_mut();
-    same(&rt, nodes.next().copied(), Some(10));
-    if let Some(weight) = nodes.next() {
-        *weight = 22;
-    }
-    same(&rt, nodes.next().copied(), None);
-    let mut edges = dag.edge_weights_mut();
-    if let Some(weight) = edges.next() {
-        *weight = 30;
-    }
-    same(&rt, edges.next().copied(), None);
-    play(&rt, rt.alloc(), &mut dag, ROWS);
+    stable(&rt, rt.alloc(), &TRIANGLE, ACTS);
 }
 
 #[test]
@@ -72,13 +64,8 @@ fn closures_read_tables_of_the_bounds_of_a_stable_dag(rt: HostRuntime) {
         (Call::Weight(2), Answer::Weight(7)),
         (Call::Stored(1), Answer::Stored(0, 2, 9)),
     ];
-    let mut dag = cut_triangle(&rt, rt.alloc());
-    let (nodes, edges) = ([5, 6, 7], [8, 9]);
-    holds(&rt, dag.node_bound() <= nodes.len());
-    holds(&rt, dag.graph().edge_bound() <= edges.len());
-    dag.update_node_weights(|n, weight| *weight = nodes[n.index()]);
-    dag.update_edge_weights(|e, weight| *weight = edges[e.index()]);
-    play(&rt, rt.alloc(), &mut dag, ROWS);
+    const ACTS: &[Act<'static>] = &[CUT, Act::Tables(&[5, 6, 7], &[8, 9], ROWS)];
+    stable(&rt, rt.alloc(), &TRIANGLE, ACTS);
 }
 
 #[test]
@@ -104,22 +91,22 @@ fn weights_of_a_stable_dag_are_recomputed_from_those_of_parents(rt: HostRuntime)
     play(&rt, rt.alloc(), &mut dag, ROWS);
 }
 
+// The first node is removed again, so the second is the first that gets a text. The edge from it
+// loses its own.
+fn write_texts<S: TextKind>(rt: &impl Abort, alloc: Global) {
+    let mut dag: TextDag<S> = Acyclic::new(alloc);
+    let gone = made(rt, dag.add_node(text(rt, alloc, "plough")));
+    let a = made(rt, dag.add_node(text(rt, alloc, "sow")));
+    let (then, reap) = (text(rt, alloc, "then"), text(rt, alloc, "reap"));
+    let (e, b) = made(rt, dag.add_child(a, then, reap));
+    same(rt, dag.remove_node(gone).is_some(), true);
+    S::rewrite(&mut dag, text(rt, alloc, "wait"));
+    reads(rt, dag.node_weight(a), "wait");
+    reads(rt, dag.node_weight(b), "reap");
+    reads(rt, dag.edge_weight(e), "");
+}
+
 #[test]
 fn texts_of_a_stable_dag_are_written(rt: HostRuntime) {
-    let alloc = rt.alloc();
-    let mut dag: StableDag<String, String, u8> = StableDag::new(alloc);
-    let gone = made(&rt, dag.add_node(made(&rt, "plough".to_string(alloc))));
-    let a = made(&rt, dag.add_node(made(&rt, "sow".to_string(alloc))));
-    let then = made(&rt, "then".to_string(alloc));
-    let reap = made(&rt, "reap".to_string(alloc));
-    let (e, b) = made(&rt, dag.add_child(a, then, reap));
-    same(&rt, dag.remove_node(gone).is_some(), true);
-    let wait = made(&rt, "wait".to_string(alloc));
-    if let Some(text) = dag.node_weights_mut().next() {
-        *text = wait;
-    }
-    dag.update_edge_weights(|_, text| text.clear());
-    same(&rt, dag.node_weight(a).map(|w| w.as_str()), Some("wait"));
-    same(&rt, dag.node_weight(b).map(|w| w.as_str()), Some("reap"));
-    same(&rt, dag.edge_weight(e).map(|w| w.as_str()), Some(""));
+    write_texts::<StableTexts>(&rt, rt.alloc());
 }

@@ -30,6 +30,19 @@ pub fn made<T: Drop, E: Drop>(rt: &impl Abort, answer: Result<T, E>) -> T
     }
 }
 
+/// A text that owns its memory.
+pub fn text(rt: &impl Abort, alloc: Global, text: &str) -> String {
+    made(rt, text.to_string(alloc))
+}
+
+/// Asserts that there is a text, and that it is this one.
+pub fn reads(rt: &impl Abort, found: Option<&String>, wanted: &str) {
+    match found {
+        Some(text) => same(rt, text.as_str(), wanted),
+        None => panic!(rt; "there is no text"),
+    }
+}
+
 /// Asserts that a value is shown as this text where a program is debugged.
 pub fn shows<T: Debug>(rt: &impl Abort, alloc: Global, value: &T, wanted: &str) {
     let text = made(rt, format!(in alloc; "{value:?}"));
