@@ -5,4 +5,5 @@ mod keys;
 mod limits;
 mod refusals;
 mod removals;
+mod steps;
 mod support;

@@ -1,4 +1,5 @@
 //! Keys that are numbers, borrowed texts and owned texts.
+use super::steps::{Step, play};
 use super::support::goes;
 use crate::support::{made, same};
 use daggy_named::error::{AddError, DependError};
@@ -8,49 +9,48 @@ use std::process::Abort;
 
 #[test]
 fn numbers_name_nodes(rt: HostRuntime) {
-    let mut dag: Named<u32, u64, u64> = Named::new(rt.alloc());
-    same(&rt, dag.is_empty(), true);
-    let seven = made(&rt, dag.add(7, 70));
-    let nine = made(&rt, dag.add(9, 90));
-    same(&rt, (seven.index(), nine.index()), (0, 1));
-    same(&rt, (dag.node_count(), dag.is_empty()), (2, false));
-    same(&rt, dag.index_of(&9), Some(nine));
-    same(&rt, dag.index_of(&8), None);
-    same(&rt, dag.key_of(seven).copied(), Some(7));
-    same(&rt, dag.weight(&7).copied(), Some(70));
-    same(&rt, dag.weight(&8).copied(), None);
-    same(&rt, dag.add(7, 71), Err(AddError::Taken(7, 71)));
-    same(&rt, dag.weight(&7).copied(), Some(70));
-    let edge = made(&rt, dag.depend(&7, &9, 5));
-    same(&rt, dag.dag().edge_endpoints(edge), Some((seven, nine)));
-    same(&rt, dag.dag().edge_weight(edge).copied(), Some(5));
+    const STEPS: &[Step] = &[
+        Step::Counts(0, 0),
+        Step::Add(7, 70, 0),
+        Step::Add(9, 90, 1),
+        Step::Counts(2, 0),
+        Step::Find(9, Some((1, 90))),
+        Step::Find(8, None),
+        Step::Key(0, Some(7)),
+        Step::Key(2, None),
+        Step::Taken(7, 71),
+        Step::Find(7, Some((0, 70))),
+        Step::Depend(7, 9, 5, 0),
+        Step::Counts(2, 1),
+    ];
+    play(&rt, rt.alloc(), STEPS);
 }
 
 #[test]
 fn a_key_is_added_once(rt: HostRuntime) {
-    let mut dag: Named<u32, u64, ()> = Named::new(rt.alloc());
-    let seven = made(&rt, dag.get_or_add(7, 70));
-    let nine = made(&rt, dag.get_or_add(9, 90));
-    same(&rt, made(&rt, dag.get_or_add(7, 71)), seven);
-    same(&rt, (dag.node_count(), dag.index_of(&9)), (2, Some(nine)));
-    same(
-        &rt,
-        (dag.weight(&7), dag.weight(&9)),
-        (Some(&70), Some(&90)),
-    );
+    const STEPS: &[Step] = &[
+        Step::GetOrAdd(7, 70, 0),
+        Step::GetOrAdd(9, 90, 1),
+        Step::GetOrAdd(7, 71, 0),
+        Step::Counts(2, 0),
+        Step::Find(7, Some((0, 70))),
+        Step::Find(9, Some((1, 90))),
+    ];
+    play(&rt, rt.alloc(), STEPS);
 }
 
 #[test]
 fn weights_are_written_by_key(rt: HostRuntime) {
-    let mut dag: Named<u32, u64, u64> = Named::new(rt.alloc());
-    made(&rt, dag.add(7, 70));
-    made(&rt, dag.add(9, 90));
-    if let Some(weight) = dag.weight_mut(&9) {
-        *weight += 1;
-    }
-    same(&rt, dag.weight_mut(&8).is_some(), false);
-    same(&rt, dag.weight(&7), Some(&70));
-    same(&rt, dag.weight(&9), Some(&91));
+    const STEPS: &[Step] = &[
+        Step::Add(7, 70, 0),
+        Step::Add(9, 90, 1),
+        Step::Write(9, 91, true),
+        Step::Write(8, 80, false),
+        Step::Find(7, Some((0, 70))),
+        Step::Find(9, Some((1, 91))),
+        Step::Find(8, None),
+    ];
+    play(&rt, rt.alloc(), STEPS);
 }
 
 #[test]

@@ -1,79 +1,71 @@
 //! Keys and indices after removals.
-use crate::support::{made, same};
-use daggy_named::error::DependError;
-use daggy_named::named::Named;
+use super::steps::Refusal::{UnknownDependent, WouldCycle};
+use super::steps::{Step, play};
 
 #[test]
 fn a_removed_key_is_free_again(rt: HostRuntime) {
-    let mut dag: Named<u32, u64, u64> = Named::new(rt.alloc());
-    let one = made(&rt, dag.add(1, 10));
-    let two = made(&rt, dag.add(2, 20));
-    let three = made(&rt, dag.add(3, 30));
-    made(&rt, dag.depend(&1, &2, 12));
-    made(&rt, dag.depend(&2, &3, 23));
-    same(&rt, dag.remove(&2), Some((2, 20)));
-    same(&rt, dag.remove(&2), None);
-    // The other nodes keep their keys and indices; its edges are gone.
-    same(&rt, (dag.node_count(), dag.dag().edge_count()), (2, 0));
-    same(
-        &rt,
-        (dag.index_of(&1), dag.index_of(&2), dag.index_of(&3)),
-        (Some(one), None, Some(three)),
-    );
-    same(
-        &rt,
-        (dag.key_of(one), dag.key_of(two), dag.key_of(three)),
-        (Some(&1), None, Some(&3)),
-    );
-    same(
-        &rt,
-        dag.depend(&1, &2, 4),
-        Err(DependError::UnknownDependent(4)),
-    );
-    // No path leads from 1 to 3 any more.
-    made(&rt, dag.depend(&3, &1, 31));
-    // The next node gets the index that was vacated.
-    let again = made(&rt, dag.add(2, 21));
-    same(&rt, again, two);
-    same(
-        &rt,
-        (dag.key_of(two), dag.weight(&2)),
-        (Some(&2), Some(&21)),
-    );
-    same(&rt, dag.depend(&1, &3, 5), Err(DependError::WouldCycle(5)));
+    const STEPS: &[Step] = &[
+        Step::Add(1, 10, 0),
+        Step::Add(2, 20, 1),
+        Step::Add(3, 30, 2),
+        Step::Depend(1, 2, 12, 0),
+        Step::Depend(2, 3, 23, 1),
+        Step::Remove(2, Some(20)),
+        Step::Remove(2, None),
+        // The other nodes keep their keys and indices; its edges are gone.
+        Step::Counts(2, 0),
+        Step::Find(1, Some((0, 10))),
+        Step::Find(2, None),
+        Step::Find(3, Some((2, 30))),
+        Step::Key(0, Some(1)),
+        Step::Key(1, None),
+        Step::Key(2, Some(3)),
+        Step::Refused(1, 2, 4, UnknownDependent),
+        // No path leads from 1 to 3 any more. The edges that left 2 were removed first, and the slot
+        // vacated last is used first.
+        Step::Depend(3, 1, 31, 0),
+        // The next node gets the index that was vacated.
+        Step::Add(2, 21, 1),
+        Step::Key(1, Some(2)),
+        Step::Find(2, Some((1, 21))),
+        Step::Refused(1, 3, 5, WouldCycle),
+    ];
+    play(&rt, rt.alloc(), STEPS);
 }
 
 #[test]
 fn removals_in_any_order(rt: HostRuntime) {
-    let mut dag: Named<u32, u64, ()> = Named::new(rt.alloc());
-    for key in 0..6 {
-        made(&rt, dag.add(key, 100 + u64::from(key)));
-    }
-    // The first, the last, and one between.
-    for key in [0, 5, 2] {
-        same(&rt, dag.remove(&key), Some((key, 100 + u64::from(key))));
-    }
-    for key in [1, 3, 4] {
-        same(&rt, dag.weight(&key), Some(&(100 + u64::from(key))));
-        same(
-            &rt,
-            dag.index_of(&key).and_then(|n| dag.key_of(n)),
-            Some(&key),
-        );
-    }
-    for key in [0, 2, 5] {
-        same(&rt, dag.index_of(&key).is_some(), false);
-    }
-    // The slot vacated last is used first.
-    same(&rt, made(&rt, dag.add(7, 7)).index(), 2);
-    same(&rt, made(&rt, dag.add(8, 8)).index(), 5);
-    same(&rt, made(&rt, dag.add(9, 9)).index(), 0);
-    same(&rt, made(&rt, dag.add(10, 10)).index(), 6);
-    for key in [1, 3, 4, 7, 8, 9, 10] {
-        same(
-            &rt,
-            dag.index_of(&key).and_then(|n| dag.key_of(n)),
-            Some(&key),
-        );
-    }
+    const STEPS: &[Step] = &[
+        Step::Add(0, 100, 0),
+        Step::Add(1, 101, 1),
+        Step::Add(2, 102, 2),
+        Step::Add(3, 103, 3),
+        Step::Add(4, 104, 4),
+        Step::Add(5, 105, 5),
+        // The first, the last, and one between.
+        Step::Remove(0, Some(100)),
+        Step::Remove(5, Some(105)),
+        Step::Remove(2, Some(102)),
+        Step::Find(1, Some((1, 101))),
+        Step::Find(3, Some((3, 103))),
+        Step::Find(4, Some((4, 104))),
+        Step::Key(1, Some(1)),
+        Step::Key(3, Some(3)),
+        Step::Key(4, Some(4)),
+        Step::Find(0, None),
+        Step::Find(2, None),
+        Step::Find(5, None),
+        // The slot vacated last is used first.
+        Step::Add(7, 7, 2),
+        Step::Add(8, 8, 5),
+        Step::Add(9, 9, 0),
+        Step::Add(10, 10, 6),
+        Step::Key(2, Some(7)),
+        Step::Key(5, Some(8)),
+        Step::Key(0, Some(9)),
+        Step::Key(6, Some(10)),
+        Step::Find(4, Some((4, 104))),
+        Step::Find(10, Some((6, 10))),
+    ];
+    play(&rt, rt.alloc(), STEPS);
 }
