@@ -9,6 +9,8 @@ use std::alloc::{AllocError, Global};
 
 /// Numbers the nodes in a topological order: the weight of each becomes its number.
 ///
+/// The contract states that nothing but weights of nodes changes, and not what they become.
+///
 /// # Errors
 ///
 /// Returns `AllocError` if an allocation fails; the dag is unchanged.
