@@ -1,6 +1,6 @@
 //! What is done with a dag of either kind beside the calls of a table.
 use super::closing::{close_chain, close_path};
-use super::kinds::{Compact, Kind, Line, Plain, Stable, Three};
+use super::kinds::{Compact, Kind, Line, Made, Plain, Stable, Three};
 use super::retaining::{keep_edges, keep_nodes};
 use super::support::{edge, holds, made, node, same};
 use super::table::{Answer, Call, Row, play};
@@ -118,6 +118,13 @@ fn are_edges(rt: &impl Abort, indices: &[usize], weights: &[u32], edges: &[Line]
     }
 }
 
+fn play_over<S: Kind>(rt: &impl Abort, alloc: Global, dag: Option<Made<S>>, rows: &[Row<'_>]) {
+    match dag {
+        Some(dag) => play(rt, alloc, &mut made(rt, dag), rows),
+        None => panic!(rt; "a table is too short"),
+    }
+}
+
 fn tables<S: Kind>(
     rt: &impl Abort,
     alloc: Global,
@@ -125,16 +132,8 @@ fn tables<S: Kind>(
     (nodes, edges): (&[u32], &[u32]),
     rows: &[Row<'_>],
 ) {
-    match (
-        S::mapped_by(dag, nodes, edges),
-        S::part_by(dag, nodes, edges),
-    ) {
-        (Some(mapped), Some(part)) => {
-            play(rt, alloc, &mut made(rt, mapped), rows);
-            play(rt, alloc, &mut made(rt, part), rows);
-        }
-        _ => panic!(rt; "a table is too short"),
-    }
+    play_over(rt, alloc, S::mapped_by(dag, nodes, edges), rows);
+    play_over(rt, alloc, S::part_by(dag, nodes, edges), rows);
     holds(rt, S::update_by(dag, nodes, edges));
     play(rt, alloc, dag, rows);
 }
