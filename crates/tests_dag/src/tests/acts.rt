@@ -64,6 +64,8 @@ pub enum Act<'a> {
     /// The weights of the second node and edge are written as they are lent, after which the first
     /// three of each were these.
     PutSecond(u32, u32, Three, Three),
+    /// References to one edge are equal, and those to two edges are not.
+    References,
     /// A path is closed.
     ClosePath,
     /// A long chain is closed.
@@ -185,13 +187,19 @@ fn apply<S: Kind>(rt: &impl Abort, alloc: Global, dag: &mut Plain<S>, act: Act<'
         Act::Copy(rows) => copy(rt, alloc, dag, rows),
         Act::Map(noted, rows) => map(rt, alloc, dag, noted, rows),
         Act::Part(without, noted, rows) => part(rt, alloc, dag, (without, noted), rows),
-        Act::Capacity(nodes, edges, rows) => capacity::<S>(rt, alloc, (nodes, edges), rows),
-        Act::Through(nodes, edges) => through(rt, alloc, dag, nodes, edges),
-        Act::Along(n, dir, nodes, edges) => along(rt, alloc, dag, (n, dir), nodes, edges),
         Act::Tables(nodes, edges, rows) => tables(rt, alloc, dag, (nodes, edges), rows),
+        _ => make_or_walk(rt, alloc, dag, act),
+    }
+}
+
+fn make_or_walk<S: Kind>(rt: &impl Abort, alloc: Global, dag: &mut Plain<S>, act: Act<'_>) {
+    match act {
+        Act::Capacity(nodes, edges, rows) => capacity::<S>(rt, alloc, (nodes, edges), rows),
         Act::NoCapacity(nodes, edges) => {
             holds(rt, S::with_capacity(alloc, nodes, edges).is_err());
         }
+        Act::Through(nodes, edges) => through(rt, alloc, dag, nodes, edges),
+        Act::Along(n, dir, nodes, edges) => along(rt, alloc, dag, (n, dir), nodes, edges),
         _ => write_or_read(rt, dag, act),
     }
 }
@@ -224,6 +232,7 @@ fn keep_or_close<S: Kind>(rt: &impl Abort, dag: &mut Plain<S>, act: Act<'_>) {
         Act::PutSecond(node, edge, nodes, edges) => {
             same(rt, S::put_second(dag, node, edge), (nodes, edges));
         }
+        Act::References => same(rt, S::equal_references(dag), (true, false)),
         Act::ClosePath => close_path(rt, dag),
         Act::CloseChain => close_chain(rt, dag),
         _ => panic!(rt; "there is no such act"),

@@ -1,6 +1,5 @@
-use super::acts::{TRIANGLE, dag_of};
-use super::kinds::{Plain, Stable};
-use super::support::{holds, same};
+use super::acts::{Act, TRIANGLE, both};
+use super::support::same;
 use super::table::{Answer, Call, Scene, compact_by};
 use daggy_base::index::{EdgeIndex, IndexType, NodeIndex};
 use std::alloc::Global;
@@ -38,12 +37,5 @@ fn an_index_becomes_a_number(rt: HostRuntime) {
 
 #[test]
 fn references_to_one_edge_are_equal(rt: HostRuntime) {
-    let dag: Plain<Stable> = dag_of(&rt, rt.alloc(), &TRIANGLE);
-    let mut edges = dag.edge_references();
-    let (first, second) = (edges.next(), edges.next());
-    holds(
-        &rt,
-        first.is_some() && first == dag.edge_references().next(),
-    );
-    holds(&rt, second.is_some() && first != second);
+    both(&rt, rt.alloc(), &TRIANGLE, &[Act::References]);
 }

@@ -61,6 +61,9 @@ pub trait Kind: Store<u8, NodeWeight = u32, EdgeWeight = u32> {
     /// weights of the first three nodes and edges before that.
     fn put_second(dag: &mut Plain<Self>, node: u32, edge: u32) -> (Three, Three);
 
+    /// Whether two references to the first edge are equal, and those to the first two edges.
+    fn equal_references(dag: &Plain<Self>) -> (bool, bool);
+
     /// Adds 100 to the weight of a node and 200 to that of another, if both exist, and gives what
     /// the first was.
     fn raise_nodes(dag: &mut Plain<Self>, a: usize, b: usize) -> Option<u32>;
@@ -267,6 +270,12 @@ impl Kind for Compact {
         )
     }
 
+    fn equal_references(dag: &Plain<Self>) -> (bool, bool) {
+        let mut edges = dag.edge_references();
+        let (first, second) = (edges.next(), edges.next());
+        (first == dag.edge_references().next(), first == second)
+    }
+
     fn raise_nodes(dag: &mut Plain<Self>, a: usize, b: usize) -> Option<u32> {
         let (a, b) = (small_node(a), small_node(b));
         if a.index() != b.index() && dag.contains_node(a) && dag.contains_node(b) {
@@ -404,6 +413,12 @@ impl Kind for Stable {
             of_nodes,
             (first, put(edges.next(), edge), edges.next().copied()),
         )
+    }
+
+    fn equal_references(dag: &Plain<Self>) -> (bool, bool) {
+        let mut edges = dag.edge_references();
+        let (first, second) = (edges.next(), edges.next());
+        (first == dag.edge_references().next(), first == second)
     }
 
     fn raise_nodes(dag: &mut Plain<Self>, a: usize, b: usize) -> Option<u32> {
