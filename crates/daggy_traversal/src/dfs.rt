@@ -206,11 +206,8 @@ fn push_cursor<Ix: IndexType, S: Store<Ix>>(
     ensures capacity { vec_capacity cursors.new ≡ vec_capacity cursors.old }
 {
     graph.invariant();
-    // Pushed first and taken back at the end of a list, since where a list ends cannot be predicted:
-    // so this is no branch.
-    cursors.push_reserved(Link::of_edge(e));
-    if e.index() == EdgeIndex::<Ix>::end().index() {
-        cursors.pop();
+    if e.index() != EdgeIndex::<Ix>::end().index() {
+        cursors.push_reserved(Link::of_edge(e));
     }
 }
 
