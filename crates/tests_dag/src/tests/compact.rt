@@ -1,11 +1,13 @@
 //! Capacity, and what only compact dags have: room that is reserved and given back, slices of all
 //! nodes and edges, and all weights written in a row.
 use super::acts::{Act, TRIANGLE, both, compact, dag_of};
-use super::kinds::{Compact, Plain, Three, note};
+use super::kinds::{Compact, Kind, Plain, Three, note};
 use super::support::{holds, same};
 use super::table::{Answer, Call, Row, play};
 use daggy_base::index::{Direction, EdgeIndex, NodeIndex};
+use std::alloc::{AllocError, Global};
 use std::cell::Cell;
+use std::process::Abort;
 
 const AGAIN: [Row<'static>; 7] = [
     (Call::Counts, Answer::Counts(3, 3)),
@@ -17,29 +19,79 @@ const AGAIN: [Row<'static>; 7] = [
     (Call::Parents(2), Answer::Walk(&[(2, 1), (1, 0)])),
 ];
 
+// A call that changes what a dag has memory for, and nothing else.
+#[derive(Clone, Copy)]
+enum Room {
+    Nodes(usize),
+    ExactNodes(usize),
+    Edges(usize),
+    ExactEdges(usize),
+    Fitted,
+    FittedNodes,
+    FittedEdges,
+}
+
+// A store whose dags have these calls.
+trait Roomy: Kind {
+    fn ask(dag: &mut Plain<Self>, room: Room) -> Result<(), AllocError>;
+}
+
+impl Roomy for Compact {
+    fn ask(dag: &mut Plain<Self>, room: Room) -> Result<(), AllocError> {
+        match room {
+            Room::Nodes(count) => dag.reserve_nodes(count),
+            Room::ExactNodes(count) => dag.reserve_exact_nodes(count),
+            Room::Edges(count) => dag.reserve_edges(count),
+            Room::ExactEdges(count) => dag.reserve_exact_edges(count),
+            Room::Fitted => dag.shrink_to_fit(),
+            Room::FittedNodes => dag.shrink_to_fit_nodes(),
+            Room::FittedEdges => dag.shrink_to_fit_edges(),
+        }
+    }
+}
+
+fn ask_all<S: Roomy>(rt: &impl Abort, alloc: Global, rooms: &[Room], succeed: bool) {
+    let mut dag: Plain<S> = dag_of(rt, alloc, &TRIANGLE);
+    for room in rooms {
+        same(rt, S::ask(&mut dag, *room).is_ok(), succeed);
+    }
+    play(rt, alloc, &mut dag, &AGAIN);
+}
+
+// Makes these calls of a triangle, which all succeed or all fail, and asserts that it is unchanged.
+fn ask_compact(rt: &impl Abort, alloc: Global, rooms: &[Room], succeed: bool) {
+    ask_all::<Compact>(rt, alloc, rooms, succeed);
+}
+
 #[test]
 fn capacity_is_made_and_given_back(rt: HostRuntime) {
-    let mut dag: Plain<Compact> = dag_of(&rt, rt.alloc(), &TRIANGLE);
-    holds(&rt, dag.reserve_nodes(20).is_ok());
-    holds(&rt, dag.reserve_exact_nodes(40).is_ok());
-    holds(&rt, dag.reserve_edges(20).is_ok());
-    holds(&rt, dag.reserve_exact_edges(40).is_ok());
-    play(&rt, rt.alloc(), &mut dag, &AGAIN);
-    holds(&rt, dag.shrink_to_fit_nodes().is_ok());
-    holds(&rt, dag.shrink_to_fit_edges().is_ok());
-    holds(&rt, dag.reserve_nodes(20).is_ok());
-    holds(&rt, dag.shrink_to_fit().is_ok());
-    play(&rt, rt.alloc(), &mut dag, &AGAIN);
+    const MADE: &[Room] = &[
+        Room::Nodes(20),
+        Room::ExactNodes(40),
+        Room::Edges(20),
+        Room::ExactEdges(40),
+    ];
+    const GIVEN_BACK: &[Room] = &[
+        Room::ExactNodes(40),
+        Room::ExactEdges(40),
+        Room::FittedNodes,
+        Room::FittedEdges,
+        Room::Nodes(20),
+        Room::Fitted,
+    ];
+    ask_compact(&rt, rt.alloc(), MADE, true);
+    ask_compact(&rt, rt.alloc(), GIVEN_BACK, true);
 }
 
 #[test]
 fn capacity_that_no_machine_has_is_refused(rt: HostRuntime) {
-    let mut dag: Plain<Compact> = dag_of(&rt, rt.alloc(), &TRIANGLE);
-    holds(&rt, dag.reserve_nodes(usize::MAX).is_err());
-    holds(&rt, dag.reserve_exact_nodes(usize::MAX).is_err());
-    holds(&rt, dag.reserve_edges(usize::MAX).is_err());
-    holds(&rt, dag.reserve_exact_edges(usize::MAX).is_err());
-    play(&rt, rt.alloc(), &mut dag, &AGAIN);
+    const ROOMS: &[Room] = &[
+        Room::Nodes(usize::MAX),
+        Room::ExactNodes(usize::MAX),
+        Room::Edges(usize::MAX),
+        Room::ExactEdges(usize::MAX),
+    ];
+    ask_compact(&rt, rt.alloc(), ROOMS, false);
 }
 
 #[test]
