@@ -54,15 +54,15 @@ pub enum Act<'a> {
     Visit(usize),
     /// A set is reset for more nodes, of which these are added.
     Reset(u32),
-    /// The nodes of one weight are not retained, with these calls.
+    /// The nodes of one weight are removed, with these calls.
     KeepNodes(u32, u64),
     /// The same with edges.
     KeepEdges(u32, u64),
-    /// Closures read the weights from tables: of a map, of a part with all nodes and edges, and of
-    /// an update. A table of calls is played over each.
+    /// Closures read the weights from tables: that of a map, of a part with all nodes and edges, and
+    /// of an update. A table of calls is played over each of the three.
     Tables(&'a [u32], &'a [u32], &'a [Row<'a>]),
-    /// The weights of the second node and edge are written as they are lent, after which the first
-    /// three of each were these.
+    /// The weights of the second node and the second edge are written as they are lent. Before, the
+    /// first three of each were these.
     PutSecond(u32, u32, Three, Three),
     /// References to one edge are equal, and those to two edges are not.
     References,

@@ -51,17 +51,18 @@ pub trait Kind: Store<u8, NodeWeight = u32, EdgeWeight = u32> {
     /// A dag with the weights that tables have for all indices, or `None` if they are too short.
     fn mapped_by(dag: &Plain<Self>, nodes: &[u32], edges: &[u32]) -> Option<Made<Self>>;
 
-    /// The same by a part of the dag that has all nodes and edges.
+    /// The same as a part of the dag that has all its nodes and edges.
     fn part_by(dag: &Plain<Self>, nodes: &[u32], edges: &[u32]) -> Option<Made<Self>>;
 
     /// Writes the weights that tables have. Returns false if they are too short.
     fn update_by(dag: &mut Plain<Self>, nodes: &[u32], edges: &[u32]) -> bool;
 
-    /// Writes the weights of the second node and the second edge that are lent, and returns the
-    /// weights of the first three nodes and edges before that.
+    /// Writes the weights of the second node and the second edge as they are lent. Returns what the
+    /// first three weights of each were.
     fn put_second(dag: &mut Plain<Self>, node: u32, edge: u32) -> (Three, Three);
 
-    /// Whether two references to the first edge are equal, and those to the first two edges.
+    /// Whether two references to the first edge are equal, and whether those to the first two edges
+    /// are.
     fn equal_references(dag: &Plain<Self>) -> (bool, bool);
 
     /// Adds 100 to the weight of a node and 200 to that of another, if both exist, and gives what

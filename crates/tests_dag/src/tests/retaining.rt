@@ -8,7 +8,7 @@ use daggy_walk::visit::NodeIndexable;
 use std::cell::Cell;
 use std::process::Abort;
 
-/// Keeps the nodes but those of one weight, with these calls.
+/// Removes the nodes of one weight, and asserts which calls the closure got.
 pub fn keep_nodes<S: Kind>(rt: &impl Abort, dag: &mut Plain<S>, without: u32, noted: u64) {
     let calls = Cell::new(0);
     dag.retain_nodes(|n, weight| {

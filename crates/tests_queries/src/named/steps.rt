@@ -22,13 +22,13 @@ pub enum Refusal {
 pub enum Step {
     /// A key is added with its weight, and gets this index.
     Add(u32, u64, usize),
-    /// The same, unless the key was added before.
+    /// The same, or the key was added before and has this index.
     GetOrAdd(u32, u64, usize),
     /// A key is not added, since it was added before.
     Taken(u32, u64),
-    /// A key depends on another from now on, by an edge of this weight and index.
+    /// The second key depends on the first from now on, by an edge of this weight and index.
     Depend(u32, u32, u64, usize),
-    /// It does not.
+    /// That is refused, and the weight returned.
     Refused(u32, u32, u64, Refusal),
     /// A key is removed, if it was added, and its weight returned.
     Remove(u32, Option<u64>),
