@@ -38,7 +38,7 @@ pub enum Step {
     Key(usize, Option<u32>),
     /// The weight of a key, if it was added, becomes this one.
     Write(u32, u64, bool),
-    /// There are so many nodes and edges.
+    /// The dag has this many nodes and this many edges.
     Counts(usize, usize),
 }
 
