@@ -1,6 +1,7 @@
 //! Times what is written over petgraph alone, on the dags of `crates/benchmarks`:
 //! `peer NAME NODES EDGES` prints `NAME NODES SECONDS`, and a check value on standard error. After
-//! these, `--kind stable` selects a stable graph, and `--reps COUNT` the median of COUNT runs.
+//! these, `--kind stable` selects a stable graph, `--reps COUNT` the median of COUNT runs, and
+//! `--rounds COUNT` how often a run goes through a graph (10).
 
 mod inputs;
 mod questions;
@@ -49,6 +50,7 @@ struct Request {
     nodes: u32,
     edges: usize,
     reps: usize,
+    rounds: usize,
 }
 
 impl Request {
@@ -62,12 +64,14 @@ impl Request {
             nodes: nodes.parse().ok()?,
             edges: edges.parse().ok()?,
             reps: 1,
+            rounds: 10,
         };
         for option in options.chunks(2) {
             match option {
                 [flag, kind] if flag == "--kind" && kind == "compact" => request.stable = false,
                 [flag, kind] if flag == "--kind" && kind == "stable" => request.stable = true,
                 [flag, count] if flag == "--reps" => request.reps = count.parse().ok()?,
+                [flag, count] if flag == "--rounds" => request.rounds = count.parse().ok()?,
                 _ => return None,
             }
         }
@@ -211,7 +215,7 @@ fn main() {
         figures.map(|(time, check)| (request, time, check))
     });
     let Some((Request { name, nodes, .. }, time, check)) = figures else {
-        eprintln!("usage: peer NAME NODES EDGES [--kind compact|stable] [--reps COUNT], with two nodes or more");
+        eprintln!("usage: peer NAME NODES EDGES [--kind compact|stable] [--reps COUNT] [--rounds COUNT], with two nodes or more");
         exit(2);
     };
     eprintln!("check {name} {nodes} {check}");

@@ -73,7 +73,7 @@ pub fn walk<Ix: IndexType, G: Kind<i64, Ix>>(
     let graph: G = build(numbers(request.nodes as usize), pairs, numbers(pairs.len()));
     median(request.reps, || {
         let mut check = 0u64;
-        for _ in 0..10 {
+        for _ in 0..request.rounds {
             for n in 0..request.nodes {
                 check = check.wrapping_add(graph.walked(NodeIndex::new(n as usize)));
             }

@@ -2,12 +2,13 @@
 use crate::random::Random;
 use std::alloc::{AllocError, Global};
 
-/// How large a graph is, and how often its workload is run.
+/// How large a graph is, how often its workload is run, and how often a run goes through the graph.
 #[derive(Clone, Copy)]
 pub struct Sizes {
     pub nodes: u32,
     pub edges: u32,
     pub reps: u32,
+    pub rounds: u32,
 }
 
 /// The parents and the children of edges.

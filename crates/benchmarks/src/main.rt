@@ -1,6 +1,7 @@
 //! Times one workload: `benchmarks NAME NODES EDGES` prints `NAME NODES SECONDS`, and a check value
-//! on standard error. After these, `--kind stable` selects a stable dag, and `--reps COUNT` the median
-//! of COUNT runs in one process.
+//! on standard error. After these, `--kind stable` selects a stable dag, `--reps COUNT` the median of
+//! COUNT runs in one process, and `--rounds COUNT` how often a run goes through a dag (10). The
+//! compiler does not know that number, so it cannot unroll the rounds.
 #![tactic(auto)]
 
 mod builds;
@@ -49,6 +50,7 @@ impl Request {
                 nodes: nodes.as_str().parse::<u32>().ok()?,
                 edges: edges.as_str().parse::<u32>().ok()?,
                 reps: 1,
+                rounds: 10,
             },
         };
         let mut options = options.iter();
@@ -58,6 +60,7 @@ impl Request {
                 ("--kind", "compact") => request.stable = false,
                 ("--kind", "stable") => request.stable = true,
                 ("--reps", count) => request.sizes.reps = count.parse::<u32>().ok()?,
+                ("--rounds", count) => request.sizes.rounds = count.parse::<u32>().ok()?,
                 _ => return None,
             }
         }
@@ -102,7 +105,10 @@ fn main(rt: HostRuntime) -> io::Result<ExitCode> {
         return Ok(ExitCode::SUCCESS);
     }
     let Some(request) = Request::of_words(words.as_slice()) else {
-        eprintln!(rt; "usage: benchmarks NAME NODES EDGES [--kind compact|stable] [--reps COUNT]")?;
+        eprintln!(rt;
+            "usage: benchmarks NAME NODES EDGES [--kind compact|stable] [--reps COUNT] \
+            [--rounds COUNT]"
+        )?;
         return Ok(ExitCode::from(2));
     };
     let name = words.first().map_or("", String::as_str);

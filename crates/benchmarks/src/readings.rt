@@ -6,7 +6,7 @@ use crate::inputs::{Sizes, random_pairs};
 use std::io;
 use std::rt::CpuClock;
 
-/// How a dag is gone through, ten times.
+/// How a dag is gone through, `rounds` times.
 #[derive(Clone, Copy)]
 pub enum Reading {
     /// All children of each node, step by step.
@@ -63,7 +63,7 @@ pub fn read<G: Kind, R: AllocGlobal + CpuClock>(
     median(rt.alloc(), sizes.reps, || {
         let start = rt.process_cpu_time()?;
         let mut check = 0u64;
-        for _ in 0..10u8 {
+        for _ in 0..sizes.rounds {
             check = check.wrapping_add(reading.sum(&dag, sizes.nodes));
         }
         let time = since(rt, start)?;

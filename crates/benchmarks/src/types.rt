@@ -95,7 +95,7 @@ fn walk<Ix: IndexType, S: Store<Ix, NodeWeight = i64, EdgeWeight = i64>, R: Allo
     median(alloc, sizes.reps, || {
         let start = rt.process_cpu_time()?;
         let mut check = 0u64;
-        for _ in 0..10u8 {
+        for _ in 0..sizes.rounds {
             for n in nodes.as_slice() {
                 check = check.wrapping_add(children_sum(&dag, *n));
             }

@@ -151,13 +151,14 @@ fn order_item<Ix: IndexType, S: Store<Ix>>(
     }
 }
 
-// Adds one edge of a batch, and notes its index. Memory to return its weight in an error is
-// reserved first.
+// Adds one edge of a batch of at least `expected` edges, and notes its index. Memory to return its
+// weight in an error is reserved first, all at once if the iterator told how many to expect.
 fn add_item<Ix: IndexType, S: Store<Ix>>(
     store: &mut S,
     order: &mut Order<Ix>,
     scratch: &mut Scratch<Ix>,
     item: (NodeIndex<Ix>, NodeIndex<Ix>, S::EdgeWeight),
+    expected: usize,
     standing: &mut Standing,
     edges: &mut Vec<EdgeIndex<Ix>>,
     weights: &mut Vec<S::EdgeWeight>,
@@ -196,7 +197,8 @@ fn add_item<Ix: IndexType, S: Store<Ix>>(
     if !store.can_add_edge() {
         return Err(Fault::Full(weight));
     }
-    if edges.reserve(1).is_err() || weights.reserve(edges.len() + 1).is_err() {
+    let len = expected.max(edges.len() + 1);
+    if edges.reserve(len - edges.len()).is_err() || weights.reserve(len).is_err() {
         return Err(Fault::Memory(weight));
     }
     *standing = order_item(store, order, scratch, a, b, edges.len(), *standing);
@@ -267,6 +269,7 @@ fn add_all<
     store.invariant();
     let alloc = scratch.allocator();
     let slot_count = store.edge_slots();
+    let (expected, _most) = items.size_hint();
     let mut edges = Vec::new(alloc);
     let mut weights = Vec::new(alloc);
     let mut standing = Standing::Kept;
@@ -276,6 +279,7 @@ fn add_all<
             order,
             scratch,
             item,
+            expected,
             &mut standing,
             &mut edges,
             &mut weights,

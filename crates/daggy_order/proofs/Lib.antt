@@ -7,7 +7,6 @@ pub mod MovedNodes
 pub mod OrderSteps
 pub mod Tails
 pub mod NodesSorted
-pub mod NodesFirst
 pub mod SortedByLabel
 pub mod OrderEdgeResult
 pub mod BoundedSearch

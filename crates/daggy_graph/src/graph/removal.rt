@@ -23,6 +23,7 @@ impl<N, E, Ix: IndexType> DiGraph<N, E, Ix> {
     /// # Complexity
     ///
     /// O(edges in the lists of the two edges). Does not allocate.
+    #[inline]
     pub fn remove_edge(&mut self, e: EdgeIndex<Ix>) -> Option<E>
         ensures value { result ≡ option_map (λ x. x.weight) (edge_at self.old.graph (Ix.number e)) }
         ensures removed { OnSome result
@@ -69,6 +70,7 @@ impl<N, E, Ix: IndexType> DiGraph<N, E, Ix> {
     }
 
     // Removes the first edge of the node's list in direction `dir` until the list is empty.
+    #[inline]
     fn clear_front(&mut self, n: NodeIndex<Ix>, dir: Direction)
     where
         E: Drop,

@@ -212,7 +212,8 @@ impl<Ix: IndexType> Links<Ix> {
     /// Nodes with an index below this can be put in without growing.
     #[inline]
     pub fn index_bound(&self) -> usize
-        ensures { result ≡ length self.now.labels }
+        ensures value { result ≡ length self.now.labels }
+        ensures reserved { result ≤ self.now.capacity }
     {
         self.items.len()
     }
@@ -409,6 +410,7 @@ impl<Ix: IndexType> Links<Ix> {
     pub fn clear(&mut self)
         ensures nodes { self.new.nodes ≡ [] }
         ensures labels { self.new.labels ≡ [] }
+        ensures capacity { self.new.capacity ≡ self.old.capacity }
     {
         self.items.clear();
         self.first = Link::end();

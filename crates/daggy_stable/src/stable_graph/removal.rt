@@ -25,6 +25,7 @@ impl<N, E, Ix: IndexType> StableDiGraph<N, E, Ix> {
     /// # Complexity
     ///
     /// O(edges before it in its two lists). Does not allocate.
+    #[inline]
     pub fn remove_edge(&mut self, e: EdgeIndex<Ix>) -> Option<E>
         ensures value { result ≡ option_map (λ x. x.weight) (edge_at self.old.graph (Ix.number e)) }
         ensures removed { OnSome result
@@ -38,6 +39,7 @@ impl<N, E, Ix: IndexType> StableDiGraph<N, E, Ix> {
     }
 
     // Unlinks an edge from its two lists, and vacates its slot.
+    #[inline]
     pub(super) fn vacate_edge(&mut self, e: EdgeIndex<Ix>) -> Option<E>
         requires { HasEdge self.old.graph (Ix.number e) }
         ensures value { result ≡ option_map (λ x. x.weight) (edge_at self.old.graph (Ix.number e)) }
@@ -83,6 +85,7 @@ impl<N, E, Ix: IndexType> StableDiGraph<N, E, Ix> {
     }
 
     // Removes the first edge of the node's list in direction `dir` until the list is empty.
+    #[inline]
     fn clear_front(&mut self, n: NodeIndex<Ix>, dir: Direction)
     where
         E: Drop,

@@ -21,10 +21,10 @@ visit-new-requires g c =
     c.requires.bound c.pop.new.self.items c.in-Some.at c.in-Some.ensures.items c.edge.ensures.value _ _
     c.in-Some-next_new.ensures.exists (c.in-Some-next_new.ensures.some _ c.steps.invariant.marked)
 
-pub push_cursor-requires-in-Some-next_new : goal.push_cursor-requires-in-Some-next_new
-push_cursor-requires-in-Some-next_new g c =
+pub push_cursor-requires : goal.push_cursor-requires
+push_cursor-requires g c =
     let room = goes_down_room c.invariant.ensures.well_formed
-    (so_far g (goal.at.push_cursor-requires-in-Some-next_new g c).At-steps) c.requires.bound
+    (so_far g (goal.at.push_cursor-requires g c).At-steps) c.requires.bound
     c.pop.new.self.items c.in-Some.at c.in-Some.ensures.items c.edge.ensures.value _ _
     c.in-Some-next_new.ensures.exists (c.in-Some-next_new.ensures.some _ c.steps.invariant.marked) in
     record {
@@ -33,8 +33,8 @@ push_cursor-requires-in-Some-next_new g c =
         room,
         ap (λ z. length z) c.in-Some.ensures.items,
         length_push c.pop.new.self.items c.in-Some.at,
-        c.push_cursor.ensures.few,
-        c.push_cursor.ensures.capacity,
+        c.push_rest.ensures.few,
+        c.push_rest.ensures.capacity,
         c.steps.invariant.room,
         c.in-Some.ensures.capacity,
       );
@@ -46,7 +46,7 @@ returns-in-Some-next_new-clause-next g c =
     (so_far g (goal.at.returns-in-Some-next_new-clause-next g c).At-steps) c.requires.bound
     c.pop.new.self.items c.in-Some.at c.in-Some.ensures.items c.edge.ensures.value _ _
     c.in-Some-next_new.ensures.exists (c.in-Some-next_new.ensures.some _ c.steps.invariant.marked)
-    c.push_cursor.new.cursors.items c.push_cursor.ensures.ahead)
+    c.push_rest.new.cursors.items c.push_rest.ensures.ahead)
 
 pub returns-in-Some-next_new-clause-left : goal.returns-in-Some-next_new-clause-left
 returns-in-Some-next_new-clause-left g c =
@@ -54,10 +54,10 @@ returns-in-Some-next_new-clause-left g c =
     (so_far g (goal.at.returns-in-Some-next_new-clause-left g c).At-steps) c.requires.bound
     c.pop.new.self.items c.in-Some.at c.in-Some.ensures.items c.edge.ensures.value _ _
     c.in-Some-next_new.ensures.exists (c.in-Some-next_new.ensures.some _ c.steps.invariant.marked)
-    c.push_cursor.new.cursors.items c.push_cursor.ensures.ahead
+    c.push_rest.new.cursors.items c.push_rest.ensures.ahead
     (c.push.ensures ∙ ap (λ z. z ++ c.index.result ∷ []) c.steps.invariant.same) c.index.ensures.value
-    c.push_cursor-in-Some-next_new.new.cursors.items (g.Ix.IndexType.number c.first_edge.result)
-    c.push_cursor-in-Some-next_new.ensures.ahead c.first_edge.ensures
+    c.push_cursor.new.cursors.items (g.Ix.IndexType.number c.first_edge.result)
+    c.push_cursor.ensures.ahead c.first_edge.ensures
 
 pub returns-in-Some-next_new-clause-marked : goal.returns-in-Some-next_new-clause-marked
 returns-in-Some-next_new-clause-marked g c =
@@ -65,7 +65,7 @@ returns-in-Some-next_new-clause-marked g c =
     (so_far g (goal.at.returns-in-Some-next_new-clause-marked g c).At-steps) c.requires.bound
     c.pop.new.self.items c.in-Some.at c.in-Some.ensures.items c.edge.ensures.value _ _
     c.in-Some-next_new.ensures.exists (c.in-Some-next_new.ensures.some _ c.steps.invariant.marked)
-    c.push_cursor.new.cursors.items c.push_cursor.ensures.ahead
+    c.push_rest.new.cursors.items c.push_rest.ensures.ahead
     (c.push.ensures ∙ ap (λ z. z ++ c.index.result ∷ []) c.steps.invariant.same) c.index.ensures.value
     c.visit-new.new.self c.visit-new.ensures.visited
 
