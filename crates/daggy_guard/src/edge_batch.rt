@@ -97,12 +97,12 @@ const LONG: usize = 32;
 // has edges.
 const SHARE: usize = 16;
 
-// Whether sorting all nodes costs at most a small multiple of adding a batch of `count` edges.
-fn is_long(count: usize, nodes: usize, edges: usize) -> bool {
-    count >= LONG && count >= nodes / SHARE && count >= edges / SHARE
+// Whether sorting all nodes costs at most a small multiple of adding a batch of `len` edges.
+fn is_long(len: usize, nodes: usize, edges: usize) -> bool {
+    len >= LONG && len >= nodes / SHARE && len >= edges / SHARE
 }
 
-// Updates the order for the edge after the first `count` of a batch.
+// Updates the order for the edge after the first `count` of a batch of at least `len` edges.
 //
 // After the first edge that closes a cycle it does nothing. If the batch is long compared with the
 // graph, searching for each edge would cost more than sorting all nodes once, so the order is
@@ -115,6 +115,7 @@ fn order_item<Ix: IndexType, S: Store<Ix>>(
     a: NodeIndex<Ix>,
     b: NodeIndex<Ix>,
     count: usize,
+    len: usize,
     standing: Standing,
 ) -> Standing
     requires parent { HasNode (S.graph store.old) (Ix.number a) }
@@ -141,7 +142,7 @@ fn order_item<Ix: IndexType, S: Store<Ix>>(
             Standing::Kept
         };
     }
-    if spared && is_long(count, store.node_slots(), store.edge_slots()) {
+    if spared && is_long(len, store.node_slots(), store.edge_slots()) {
         return Standing::Left;
     }
     if make_way(store, order, scratch, a, b) {
@@ -201,7 +202,7 @@ fn add_item<Ix: IndexType, S: Store<Ix>>(
     if edges.reserve(len - edges.len()).is_err() || weights.reserve(len).is_err() {
         return Err(Fault::Memory(weight));
     }
-    *standing = order_item(store, order, scratch, a, b, edges.len(), *standing);
+    *standing = order_item(store, order, scratch, a, b, edges.len(), len, *standing);
     match store.add_edge(a, b, weight) {
         Ok(e) => {
             edges.push_reserved(e);
