@@ -1,5 +1,5 @@
 #!/usr/bin/env bash
-# Reduces documents of 5,000 nodes and nearly 10,000 edges, of both kinds: a chain with a shortcut past each node, whose
+# Reduces documents of 20,000 nodes and nearly 40,000 edges, of both kinds: a chain with a shortcut past each node, whose
 # nodes are numbered against it. The chain is left. If its last node leads to its first, the document is refused.
 set -u
 . "$(dirname "$0")/../refusing.sh"
@@ -11,7 +11,7 @@ import subprocess
 import sys
 
 program = sys.argv[1]
-COUNT = 5_000
+COUNT = 20_000
 
 
 def reduced(edges, *options):
