@@ -3,7 +3,6 @@ use Rattle.std.specs.Prelude.{◌≡◌, ℕ, suc, ◌+◌, ◌<◌, ◌==◌, �
 use Rattle.std.specs.Prelude.{drop, filter, Contains, if◌then◌else◌}
 use Rattle.daggy_base.specs.Graph.{Graph, HasNode, out_list}
 use Rattle.daggy_base.specs.Path.{AreJoined, Reaches}
-use Rattle.daggy_base.specs.Removal.{without}
 use Rattle.daggy_base.specs.WellFormed.{AreDistinct}
 
 -- the position of a node in a list, or the list's length
@@ -16,11 +15,6 @@ pub record IsOrderOf {N E : Type 0} (g : Graph N E) (order : List ℕ) : Type 0 
   pub exact : (n : ℕ) → Contains order n ↔ HasNode g n
   pub once : AreDistinct order
   pub sorted : (u v : ℕ) → AreJoined g u v → place order u < place order v
-
--- with the nodes of a list moved to the front, in its order
-abbrev pub with_first : (nodes order : List ℕ) → List ℕ
-with_first [] order = order
-with_first (n ∷ ns) order = n ∷ without n (with_first ns order)
 
 -- how many edges leave the nodes of a list
 abbrev pub edges_from : {N E : Type 0} → Graph N E → List ℕ → ℕ
