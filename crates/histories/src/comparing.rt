@@ -1,12 +1,12 @@
 //! A dag compared with its model, in all that can be seen of it.
 ghost use Rattle.std.specs.Iterator.{IsFinite};
 
-use crate::calls::Way;
 use crate::dag::kinds::Kind;
 use crate::dag::{Ix, Numbers, edge, node};
-use crate::judging::is_order_of;
-use crate::model::Model;
 use daggy::{EdgeIndex, NodeIndex, Walker};
+use histories_model::calls::Way;
+use histories_model::judging::is_order_of;
+use histories_model::model::Model;
 use std::alloc::{AllocError, Global};
 
 /// What differs.

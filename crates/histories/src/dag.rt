@@ -9,11 +9,11 @@ mod walks;
 mod wholes;
 mod work;
 
-use crate::answer::Answer;
-use crate::calls::Call;
-use crate::model::Model;
 use anyhow::Result;
 use daggy::{Acyclic, EdgeIndex, NodeIndex};
+use histories_model::answer::Answer;
+use histories_model::calls::Call;
+use histories_model::model::Model;
 use kinds::Kind;
 use std::alloc::Global;
 

@@ -1,16 +1,16 @@
 //! Histories: calls of a dag that is empty at first, and of its model.
-use crate::answer::Answer;
-use crate::calls::Call;
-use crate::choosing::{Style, choose};
 use crate::comparing::{Difference, compare};
 use crate::dag::kinds::Kind;
 use crate::dag::{self, Ix, Numbers};
-use crate::judging::is_right;
-use crate::model::Model;
-use crate::random::Random;
-use crate::tally::Tally;
 use anyhow::Result;
 use daggy::NodeIndex;
+use histories_model::answer::Answer;
+use histories_model::calls::Call;
+use histories_model::choosing::{Style, choose};
+use histories_model::judging::is_right;
+use histories_model::model::Model;
+use histories_model::random::Random;
+use histories_model::tally::Tally;
 use std::alloc::Global;
 
 /// How a dag and its model disagree.

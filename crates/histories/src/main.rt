@@ -7,29 +7,22 @@
 //! answers of the last one, and exits with status 1.
 #![tactic(auto)]
 
-mod answer;
-mod calls;
-mod choosing;
 mod comparing;
 mod dag;
 mod history;
-mod judging;
-mod model;
-mod random;
 mod shrinking;
-mod tally;
 
-use crate::calls::Call;
-use crate::choosing::Style;
 use crate::dag::Ix;
 use crate::dag::kinds::Kind;
 use crate::history::{Fault, Played, play};
-use crate::random::{Random, mixed};
 use crate::shrinking::shrink;
-use crate::tally::Tally;
 use anyhow::{Context, Result, bail};
 use daggy::graph::DiGraph;
 use daggy::stable_graph::StableDiGraph;
+use histories_model::calls::Call;
+use histories_model::choosing::Style;
+use histories_model::random::{Random, mixed};
+use histories_model::tally::Tally;
 use std::env;
 use std::process::ExitCode;
 use std::rt::Env;

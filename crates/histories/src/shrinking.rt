@@ -1,8 +1,8 @@
 //! Short histories that disagree.
-use crate::calls::Call;
 use crate::dag::kinds::Kind;
 use crate::history::{Fault, replay};
 use anyhow::Result;
+use histories_model::calls::Call;
 use std::alloc::Global;
 
 /// A history that disagrees at its last call.

@@ -2,11 +2,11 @@
 use super::changes::of_error;
 use super::kinds::Kind;
 use super::{Ix, Numbers, node, nodes};
-use crate::answer::Answer;
-use crate::calls::{Batch, Line, Part, keeps};
 use anyhow::{Result, bail};
 use daggy::graph::Element;
 use daggy::{EdgesError, ElementError, NodeError, NodeIndex, ParentsError, WouldCycle};
+use histories_model::answer::Answer;
+use histories_model::calls::{Batch, Line, Part, keeps};
 use std::alloc::Global;
 
 /// Makes a change of many nodes or edges.

@@ -1,10 +1,10 @@
 //! Nodes and edges added and removed one at a time.
 use super::kinds::Kind;
 use super::{Ix, Numbers, edge, node};
-use crate::answer::Answer;
-use crate::calls::Change;
 use anyhow::{Result, bail};
 use daggy::{ChildError, EdgeError, EdgeIndex, NodeIndex, WouldCycle};
+use histories_model::answer::Answer;
+use histories_model::calls::Change;
 use std::alloc::Global;
 
 /// Makes a change.

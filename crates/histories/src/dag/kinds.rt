@@ -3,13 +3,13 @@ ghost use Rattle.std.specs.Iterator.{IsFinite};
 
 use super::wholes::{decoded, encoded};
 use super::{Ix, Numbers};
-use crate::calls::{Line, changed, keeps};
-use crate::model::Removal;
 use anyhow::{Result, bail};
 use daggy::graph::DiGraph;
 use daggy::json::{ReadError, dag_from_json, dag_to_json, stable_from_json, stable_to_json};
 use daggy::stable_graph::StableDiGraph;
 use daggy::{Dag, Direction, EdgeIndex, EdgeReference, NodeIndex, StableDag, Store};
+use histories_model::calls::{Line, changed, keeps};
+use histories_model::model::Removal;
 use serde_json::Value;
 use std::alloc::{AllocError, Global};
 

@@ -1,10 +1,10 @@
 //! What is asked of nodes and edges.
 use super::kinds::Kind;
 use super::{Ix, Numbers, edge, node};
-use crate::answer::Answer;
-use crate::calls::{Query, Way};
 use anyhow::Result;
 use daggy::{Direction, NodeIndex, Walker};
+use histories_model::answer::Answer;
+use histories_model::calls::{Query, Way};
 use std::alloc::Global;
 
 /// Asks a question.

@@ -2,12 +2,12 @@
 ghost use Rattle.daggy.specs.Path.{IsAcyclic};
 
 use super::Ix;
-use crate::answer::Answer;
 use anyhow::{Result, bail};
 use daggy::search::{
     Order, Scratch, redundant_edges, redundant_edges_by_blocks, redundant_edges_in,
 };
 use daggy::{EdgeIndex, NodeIndex, Store};
+use histories_model::answer::Answer;
 use std::alloc::Global;
 
 /// The redundant edges below some roots. It is an error if the three ways find different edges.

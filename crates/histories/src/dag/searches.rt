@@ -2,10 +2,10 @@
 use super::kinds::Kind;
 use super::wholes::compact;
 use super::{Numbers, node, nodes, numbers, redundant};
-use crate::answer::Answer;
-use crate::calls::Search;
 use anyhow::{Result, bail};
 use daggy::same_reachability;
+use histories_model::answer::Answer;
+use histories_model::calls::Search;
 use std::alloc::Global;
 
 /// Asks a question about paths.

@@ -2,11 +2,11 @@
 use super::kinds::Kind;
 use super::queries::direction;
 use super::{Numbers, node, nodes, numbers};
-use crate::answer::Answer;
-use crate::calls::Walk;
 use anyhow::Result;
 use daggy::Walker;
 use daggy::traversal::{Bfs, Dfs, DfsPostOrder};
+use histories_model::answer::Answer;
+use histories_model::calls::Walk;
 use std::alloc::Global;
 
 /// Asks a question whose answer is a list of nodes.

@@ -1,12 +1,12 @@
 //! Dags made of a whole dag.
 use super::kinds::Kind;
 use super::{Ix, Numbers};
-use crate::answer::Answer;
-use crate::calls::{Whole, keeps};
-use crate::model::Model;
 use anyhow::{Context, Result, bail};
 use daggy::json::{ReadError, write_json};
 use daggy::{Dag, EdgeIndex, NodeIndex};
+use histories_model::answer::Answer;
+use histories_model::calls::{Whole, keeps};
+use histories_model::model::Model;
 use serde_json::Value;
 use std::alloc::{AllocError, Global};
 

@@ -3,13 +3,13 @@ ghost use Rattle.daggy.specs.Work.{IsUnderWay};
 
 use super::kinds::Kind;
 use super::{Ix, Numbers, numbers};
-use crate::answer::{Answer, Event, Times};
-use crate::calls::{Work, key_of};
-use crate::random::Random;
 use anyhow::{Result, bail};
 use daggy::NodeIndex;
 use daggy::run::plan;
 use daggy::schedule::{Ready, Schedule, ScheduleError, schedule_on, topological_order_by};
+use histories_model::answer::{Answer, Event, Times};
+use histories_model::calls::{Work, key_of};
+use histories_model::random::Random;
 use std::alloc::Global;
 use std::num::NonZeroUsize;
 

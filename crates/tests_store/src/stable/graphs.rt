@@ -5,8 +5,6 @@ use super::support::{
 use daggy_base::index::{Direction, EdgeIndex, NodeIndex};
 use daggy_base::source::EdgeSource;
 use daggy_base::store::Store;
-use daggy_dag::slot_capacity::Room;
-use daggy_graph::graph::DiGraph;
 use daggy_stable::stable_graph::StableDiGraph;
 use std::alloc::Global;
 use std::process::Abort;
@@ -88,65 +86,6 @@ fn adding_is_taken_back(rt: HostRuntime) {
     slots(&rt, &graph, 1, 1);
     shape(&rt, &graph, &[(0, 10)], &[]);
     first(&rt, &graph, 0, Direction::Incoming, EdgeIndex::end());
-}
-
-// Nodes 0, 1 and 2, the edges 0 -> 1 and 0 -> 2, and in the list of the node 0 the first of them
-// first.
-fn turned(rt: &impl Abort, alloc: Global) -> DiGraph<u32, u32> {
-    let mut graph = DiGraph::new(alloc);
-    for weight in 10..13 {
-        holds(rt, graph.can_add_node());
-        made(rt, graph.add_node(weight));
-    }
-    let a = NodeIndex::new(0);
-    for (n, weight) in [(1, 100), (2, 101), (1, 102)] {
-        let b = NodeIndex::new(n);
-        assert!(rt; graph.contains_node(a) && graph.contains_node(b) && graph.can_add_edge());
-        made(rt, graph.add_edge(a, b, weight));
-    }
-    same(rt, graph.remove_edge(EdgeIndex::new(0)), Some(100));
-    graph
-}
-
-// The graph of `turned` in slots.
-fn filled(rt: &impl Abort, alloc: Global) -> PlainGraph {
-    let compact = turned(rt, alloc);
-    let room = made(
-        rt,
-        Room::new(alloc, compact.node_count(), compact.edge_count()),
-    );
-    room.fill(compact)
-}
-
-#[test]
-fn a_compact_graph_fills_a_room(rt: HostRuntime) {
-    let mut graph = filled(&rt, rt.alloc());
-    shape(
-        &rt,
-        &graph,
-        &[(0, 10), (1, 11), (2, 12)],
-        &[(0, 0, 1, 102), (1, 0, 2, 101)],
-    );
-    slots(&rt, &graph, 3, 2);
-    put_edge(&rt, &mut graph, (1, 2), 103, 2);
-    put_node(&rt, &mut graph, 13, 3);
-}
-
-#[test]
-fn a_filled_room_keeps_the_lists(rt: HostRuntime) {
-    let graph = filled(&rt, rt.alloc());
-    let (older, newer) = (EdgeIndex::new(0), EdgeIndex::new(1));
-    first(&rt, &graph, 0, Direction::Outgoing, older);
-    first(&rt, &graph, 1, Direction::Incoming, older);
-    first(&rt, &graph, 2, Direction::Incoming, newer);
-    holds(&rt, graph.contains_edge(older));
-    same(&rt, graph.next_edge(older, Direction::Outgoing), newer);
-    holds(&rt, graph.contains_edge(newer));
-    same(
-        &rt,
-        graph.next_edge(newer, Direction::Outgoing),
-        EdgeIndex::end(),
-    );
 }
 
 #[test]
