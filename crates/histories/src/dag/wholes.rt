@@ -18,28 +18,42 @@ pub fn make<S: Kind>(
     whole: &Whole,
 ) -> Result<Answer> {
     match *whole {
-        Whole::TryClone => *dag = S::copied(dag)?,
-        Whole::Map(salt) => *dag = S::mapped(dag, salt)?,
-        Whole::Rewrite(salt) => S::rewrite(dag, salt),
-        Whole::FilterMap(salt) => *dag = S::part(dag, salt)?,
-        Whole::FromDag => *dag = S::of_compact(compact(alloc, dag, None)?)?,
-        Whole::WriteDocument => return Ok(Answer::Text(written(alloc, dag)?)),
-        Whole::Restore => return read(alloc, dag, &S::document(alloc, dag)?),
-        Whole::ReadDocument(salt) => {
-            let text = model.permuted_document(salt)?;
-            return read_text(alloc, dag, text.as_str());
+        Whole::TryClone | Whole::Map(_) | Whole::FilterMap(_) | Whole::FromDag => {
+            replace(alloc, dag, whole)
         }
-        Whole::ReadSlots(e) => {
-            let text = model.reversing(e)?.document_of_slots()?;
-            return read_text(alloc, dag, text.as_str());
+        Whole::Rewrite(salt) => {
+            S::rewrite(dag, salt);
+            Ok(Answer::Done)
         }
+        Whole::WriteDocument => Ok(Answer::Text(written(alloc, dag)?)),
+        Whole::Restore => read(alloc, dag, &S::document(alloc, dag)?),
+        Whole::ReadDocument(salt) => read_text(alloc, dag, model.permuted_document(salt)?),
+        Whole::ReadSlots(e) => read_text(alloc, dag, model.reversing(e)?.document_of_slots()?),
     }
+}
+
+// Replaces a dag by the one that is made of it.
+fn replace<S: Kind>(alloc: Global, dag: &mut Numbers<S>, whole: &Whole) -> Result<Answer> {
+    *dag = made_of(alloc, dag, whole)?;
     Ok(Answer::Done)
 }
 
+// The dag that is made of another. It stands apart from `make`, since a dag that is owned in one of
+// many branches makes the proof of all of them long.
+fn made_of<S: Kind>(alloc: Global, dag: &Numbers<S>, whole: &Whole) -> Result<Numbers<S>> {
+    match *whole {
+        Whole::Map(salt) => Ok(S::mapped(dag, salt)?),
+        Whole::FilterMap(salt) => Ok(S::part(dag, salt)?),
+        Whole::FromDag => S::of_compact(compact(alloc, dag, None)?),
+        _ => Ok(S::copied(dag)?),
+    }
+}
+
 // Reads the dag of a text.
-fn read_text<S: Kind>(alloc: Global, dag: &mut Numbers<S>, text: &str) -> Result<Answer> {
-    let value = Value::from_str(alloc, text).ok().context("no JSON")?;
+fn read_text<S: Kind>(alloc: Global, dag: &mut Numbers<S>, text: String) -> Result<Answer> {
+    let value = Value::from_str(alloc, text.as_str())
+        .ok()
+        .context("no JSON")?;
     read(alloc, dag, &value)
 }
 

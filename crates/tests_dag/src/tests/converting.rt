@@ -5,7 +5,6 @@ use super::support::{holds, made, reads, same, text};
 use super::table::{Answer, Call, Row, play};
 use daggy_base::index::NodeIndex;
 use daggy_dag::acyclic::{Acyclic, Dag, StableDag};
-use daggy_dag::slot_capacity::Room;
 use daggy_graph::graph::DiGraph;
 use daggy_stable::stable_graph::StableDiGraph;
 use std::alloc::Global;
@@ -42,14 +41,6 @@ fn convert<S: Kind + From<Plain<S>>>(rt: &impl Abort, alloc: Global) {
 fn a_graph_that_was_a_dag_may_hold_cycles(rt: HostRuntime) {
     convert::<Compact>(&rt, rt.alloc());
     convert::<Stable>(&rt, rt.alloc());
-}
-
-#[test]
-fn a_compact_graph_fills_a_room(rt: HostRuntime) {
-    let compact = pair::<Compact>(&rt, rt.alloc()).into_graph();
-    let (nodes, edges) = (compact.node_count(), compact.edge_count());
-    let room = made(&rt, Room::new(rt.alloc(), nodes, edges));
-    may_hold_cycles(&rt, room.fill(compact));
 }
 
 #[test]
