@@ -1,5 +1,5 @@
-//! What a history of calls is judged by: the calls, a plain model of a dag that answers them, random
-//! choices of calls, and which answers are right. It uses nothing of the library.
+//! Random calls of a dag, and a plain model that answers them and judges the answers of a real dag. It
+//! uses nothing of the library.
 #![tactic(auto)]
 
 pub mod answer;

@@ -38,14 +38,15 @@ fn replace<S: Kind>(alloc: Global, dag: &mut Numbers<S>, whole: &Whole) -> Resul
     Ok(Answer::Done)
 }
 
-// The dag that is made of another. It stands apart from `make`, since a dag that is owned in one of
-// many branches makes the proof of all of them long.
+// The dag that a call makes of another. A function of its own, since a dag that one branch owns
+// lengthens the proof of every branch.
 fn made_of<S: Kind>(alloc: Global, dag: &Numbers<S>, whole: &Whole) -> Result<Numbers<S>> {
     match *whole {
         Whole::Map(salt) => Ok(S::mapped(dag, salt)?),
         Whole::FilterMap(salt) => Ok(S::part(dag, salt)?),
         Whole::FromDag => S::of_compact(compact(alloc, dag, None)?),
-        _ => Ok(S::copied(dag)?),
+        Whole::TryClone => Ok(S::copied(dag)?),
+        _ => bail!("no dag is made"),
     }
 }
 
