@@ -9,7 +9,7 @@ ghost use Rattle.daggy_traversal.specs.Traversal.{first_new, without_old, neighb
 ghost use Rattle.daggy_traversal.specs.Depth.{IsDepthFirst, IsDepthStep, next_in_depth, ahead};
 
 use crate::given::Given;
-use crate::neighbors::next_new;
+use crate::neighbors::{next_new, touch_edge};
 use daggy_base::index::{DefaultIx, Direction, EdgeIndex, IndexType, NodeIndex};
 use daggy_base::link::Link;
 use daggy_base::store::Store;
@@ -267,6 +267,10 @@ fn advance<Ix: IndexType, S: Store<Ix>>(
     graph.invariant();
     'steps: while let Some(at) = cursors.pop() {
         if let Some((n, next)) = next_new(graph, dir, at.edge(), met) {
+            // Never taken: this is a prefetch.
+            if !touch_edge(graph, next) {
+                return None;
+            }
             let _new = met.visit(n);
             given.push(n.index());
             push_rest(graph, dir, cursors, next);

@@ -11,7 +11,7 @@ mod workers;
 use crate::line::{BadLine, parse};
 use crate::targets::Targets;
 use anyhow::{Context, Result};
-use clap::{Arg, ArgAction, Command};
+use clap::{Arg, ArgAction, ArgMatches, Command};
 use std::alloc::{AllocError, Global};
 use std::io::{BufRead, BufReader, Read};
 use std::num::NonZeroUsize;
@@ -96,6 +96,48 @@ fn take_lines<R: Read + Drop>(
     Ok(bad)
 }
 
+/// The number of workers.
+fn workers_in(matches: &ArgMatches<'_>) -> Result<NonZeroUsize> {
+    let workers = match matches.get_str("workers") {
+        Some(count) => count.parse().ok().and_then(NonZeroUsize::new),
+        None => Some(NonZeroUsize::MIN),
+    };
+    workers.context("the number of workers is not a whole number above 0")
+}
+
+/// Reads the file, or standard input, and returns how many lines were bad.
+fn read(
+    rt: &(impl Files + Input + Eprint + AllocGlobal),
+    matches: &ArgMatches<'_>,
+    targets: &mut Targets,
+) -> Result<u64> {
+    match matches.get_str("file") {
+        Some(path) => {
+            let file = fs::open(rt, path).with_context(|| format_args!("{path}"))?;
+            take_lines(rt, file, targets)
+        }
+        None => take_lines(rt, rt.reader(), targets),
+    }
+}
+
+/// Reads the targets, does what the options say, and returns whether every line was good.
+fn build(
+    rt: &(impl Files + Input + Print + Eprint + AllocGlobal),
+    matches: &ArgMatches<'_>,
+) -> Result<bool> {
+    let workers = workers_in(matches)?;
+    let mut targets = Targets::new(rt.alloc());
+    let bad = read(rt, matches, &mut targets)?;
+    if matches.get_flag("dry-run") {
+        targets.print_outdated(rt)?;
+    } else if matches.get_flag("plan") {
+        targets.print_plan(rt, workers)?;
+    } else {
+        targets.build(rt, workers)?;
+    }
+    Ok(bad == 0)
+}
+
 /// Runs the program, and returns its exit status.
 fn run(rt: &(impl Env + Files + Input + Print + Eprint + AllocGlobal)) -> Result<u8> {
     let words: Vec<String> = env::args(rt)?.collect(rt.alloc())?;
@@ -106,27 +148,7 @@ fn run(rt: &(impl Env + Files + Input + Print + Eprint + AllocGlobal)) -> Result
             return Ok(if error.use_stderr() { 2 } else { 0 });
         }
     };
-    let workers = match matches.get_str("workers") {
-        Some(count) => count.parse().ok().and_then(NonZeroUsize::new),
-        None => Some(NonZeroUsize::MIN),
-    };
-    let workers = workers.context("the number of workers is not a whole number above 0")?;
-    let mut targets = Targets::new(rt.alloc());
-    let bad = match matches.get_str("file") {
-        Some(path) => {
-            let file = fs::open(rt, path).with_context(|| format_args!("{path}"))?;
-            take_lines(rt, file, &mut targets)?
-        }
-        None => take_lines(rt, rt.reader(), &mut targets)?,
-    };
-    if matches.get_flag("dry-run") {
-        targets.print_outdated(rt)?;
-    } else if matches.get_flag("plan") {
-        targets.print_plan(rt, workers)?;
-    } else {
-        targets.build(rt, workers)?;
-    }
-    Ok(if bad == 0 { 0 } else { 1 })
+    Ok(if build(rt, &matches)? { 0 } else { 1 })
 }
 
 fn main(rt: HostRuntime) -> ExitCode {

@@ -10,7 +10,7 @@ mod status;
 use crate::needs::Needs;
 use crate::status::{BadLine, Packages};
 use anyhow::{Context, Result};
-use clap::{Arg, ArgAction, Command};
+use clap::{Arg, ArgAction, ArgMatches, Command};
 use std::alloc::{AllocError, Global};
 use std::io::{BufRead, BufReader, Read};
 use std::process::ExitCode;
@@ -71,6 +71,37 @@ fn read<R: Read + Drop>(
     Ok(bad)
 }
 
+/// Reads the file, or standard input, and returns how many lines were bad.
+fn read_input(
+    rt: &(impl Files + Input + Eprint + AllocGlobal),
+    matches: &ArgMatches<'_>,
+    packages: &mut Packages,
+) -> Result<u64> {
+    match matches.get_str("file") {
+        Some(path) => {
+            let file = fs::open(rt, path).with_context(|| format_args!("{path}"))?;
+            read(rt, file, packages)
+        }
+        None => read(rt, rt.reader(), packages),
+    }
+}
+
+/// Reads the packages, prints what the options say, and returns whether every line was good.
+fn print(
+    rt: &(impl Files + Input + Print + Eprint + AllocGlobal),
+    matches: &ArgMatches<'_>,
+) -> Result<bool> {
+    let mut packages = Packages::new(rt.alloc());
+    let bad = read_input(rt, matches, &mut packages)?;
+    let needs = Needs::of(rt, packages.as_slice())?;
+    if matches.get_flag("dot") {
+        needs.draw(rt)?;
+    } else {
+        needs.print(rt)?;
+    }
+    Ok(bad == 0)
+}
+
 /// Runs the program, and returns its exit status.
 fn run(rt: &(impl Env + Files + Input + Print + Eprint + AllocGlobal)) -> Result<u8> {
     let words: Vec<String> = env::args(rt)?.collect(rt.alloc())?;
@@ -81,21 +112,7 @@ fn run(rt: &(impl Env + Files + Input + Print + Eprint + AllocGlobal)) -> Result
             return Ok(if error.use_stderr() { 2 } else { 0 });
         }
     };
-    let mut packages = Packages::new(rt.alloc());
-    let bad = match matches.get_str("file") {
-        Some(path) => {
-            let file = fs::open(rt, path).with_context(|| format_args!("{path}"))?;
-            read(rt, file, &mut packages)?
-        }
-        None => read(rt, rt.reader(), &mut packages)?,
-    };
-    let needs = Needs::of(rt, packages.as_slice())?;
-    if matches.get_flag("dot") {
-        needs.draw(rt)?;
-    } else {
-        needs.print(rt)?;
-    }
-    Ok(if bad == 0 { 0 } else { 1 })
+    Ok(if print(rt, &matches)? { 0 } else { 1 })
 }
 
 fn main(rt: HostRuntime) -> ExitCode {
