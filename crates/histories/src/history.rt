@@ -69,7 +69,37 @@ pub enum Played {
     Disagrees(Vec<Call>),
 }
 
-/// Plays a random history of at most `most` calls, and adds them to the tally.
+// What borrows a pair is proved sooner than what owns one.
+impl<S: Kind> Pair<S> {
+    // Plays that many random calls.
+    fn play(&mut self, random: &mut Random, style: Style, length: usize) -> Result<Played> {
+        let mut calls = Vec::new(self.alloc);
+        for left in (0..length).rev() {
+            let call = choose(self.alloc, random, &self.model, style)?;
+            let compares = left == 0 || random.once_in(4);
+            let fault = self.step(&call, compares)?;
+            calls.push(call)?;
+            if fault.is_some() {
+                return Ok(Played::Disagrees(calls));
+            }
+        }
+        Ok(Played::Agrees)
+    }
+
+    // Plays the calls that are kept, and returns the position of the first one that disagrees.
+    fn replay(&mut self, calls: &[Call], kept: &[bool]) -> Result<Option<(usize, Fault)>> {
+        for (i, (call, is_kept)) in calls.iter().zip(kept.iter()).enumerate() {
+            if *is_kept {
+                if let Some(fault) = self.step(call, true)? {
+                    return Ok(Some((i, fault)));
+                }
+            }
+        }
+        Ok(None)
+    }
+}
+
+/// Plays a random history of at most `most` calls, and adds them to the tally if it agrees.
 pub fn play<S: Kind>(
     alloc: Global,
     random: &mut Random,
@@ -79,19 +109,12 @@ pub fn play<S: Kind>(
 ) -> Result<Played> {
     let mut pair = Pair::<S>::new(alloc);
     pair.tally = *tally;
-    let mut calls = Vec::new(alloc);
     let length = 50usize.saturating_add(random.below(351)).min(most);
-    for left in (0..length).rev() {
-        let call = choose(alloc, random, &pair.model, style)?;
-        let compares = left == 0 || random.once_in(4);
-        let fault = pair.step(&call, compares)?;
-        calls.push(call)?;
-        if fault.is_some() {
-            return Ok(Played::Disagrees(calls));
-        }
+    let played = pair.play(random, style, length)?;
+    if matches!(played, Played::Agrees) {
+        *tally = pair.tally;
     }
-    *tally = pair.tally;
-    Ok(Played::Agrees)
+    Ok(played)
 }
 
 /// Plays the calls that are kept, and returns the position of the first one that disagrees.
@@ -101,12 +124,5 @@ pub fn replay<S: Kind>(
     kept: &[bool],
 ) -> Result<Option<(usize, Fault)>> {
     let mut pair = Pair::<S>::new(alloc);
-    for (i, (call, is_kept)) in calls.iter().zip(kept.iter()).enumerate() {
-        if *is_kept {
-            if let Some(fault) = pair.step(call, true)? {
-                return Ok(Some((i, fault)));
-            }
-        }
-    }
-    Ok(None)
+    pair.replay(calls, kept)
 }
