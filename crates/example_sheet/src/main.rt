@@ -10,7 +10,7 @@ mod sheet;
 use crate::line::{BadLine, parse};
 use crate::sheet::Sheet;
 use anyhow::{Context, Result};
-use clap::{Arg, ArgAction, Command};
+use clap::{Arg, ArgAction, ArgMatches, Command};
 use std::alloc::{AllocError, Global};
 use std::io::{BufRead, BufReader, Read};
 use std::process::ExitCode;
@@ -68,15 +68,15 @@ fn take_line(
 fn take_lines<R: Read + Drop>(
     rt: &(impl Print + Eprint + AllocGlobal),
     input: R,
+    sheet: &mut Sheet,
     strict: bool,
 ) -> Result<u64> {
-    let mut sheet = Sheet::new(rt.alloc());
     let input = BufReader::new(rt.alloc(), input)?;
     let mut number = 0u64;
     let mut bad = 0u64;
     for line in input.split(rt.alloc(), b'\n') {
         number = number.checked_add(1).context("too many lines")?;
-        match take_line(rt, &mut sheet, line?.as_slice()) {
+        match take_line(rt, sheet, line?.as_slice()) {
             Ok(()) => continue,
             Err(BadLine::Memory(error)) => return Err(error.into()),
             Err(BadLine::Failed(error)) => return Err(error),
@@ -90,6 +90,23 @@ fn take_lines<R: Read + Drop>(
     Ok(bad)
 }
 
+/// Takes the lines of the file, or of standard input, and returns whether every one was good.
+fn recalculate(
+    rt: &(impl Files + Input + Print + Eprint + AllocGlobal),
+    matches: &ArgMatches<'_>,
+) -> Result<bool> {
+    let mut sheet = Sheet::new(rt.alloc());
+    let strict = matches.get_flag("strict");
+    let bad = match matches.get_str("file") {
+        Some(path) => {
+            let file = fs::open(rt, path).with_context(|| format_args!("{path}"))?;
+            take_lines(rt, file, &mut sheet, strict)?
+        }
+        None => take_lines(rt, rt.reader(), &mut sheet, strict)?,
+    };
+    Ok(bad == 0)
+}
+
 /// Runs the program, and returns its exit status.
 fn run(rt: &(impl Env + Files + Input + Print + Eprint + AllocGlobal)) -> Result<u8> {
     let words: Vec<String> = env::args(rt)?.collect(rt.alloc())?;
@@ -100,15 +117,7 @@ fn run(rt: &(impl Env + Files + Input + Print + Eprint + AllocGlobal)) -> Result
             return Ok(if error.use_stderr() { 2 } else { 0 });
         }
     };
-    let strict = matches.get_flag("strict");
-    let bad = match matches.get_str("file") {
-        Some(path) => {
-            let file = fs::open(rt, path).with_context(|| format_args!("{path}"))?;
-            take_lines(rt, file, strict)?
-        }
-        None => take_lines(rt, rt.reader(), strict)?,
-    };
-    Ok(if bad == 0 { 0 } else { 1 })
+    Ok(if recalculate(rt, &matches)? { 0 } else { 1 })
 }
 
 fn main(rt: HostRuntime) -> ExitCode {
