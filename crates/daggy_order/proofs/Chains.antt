@@ -6,6 +6,17 @@ use Rattle.daggy_base.proofs.Lists.{Mem, Unique, mem_left, mem_right, mem_cases,
 use Rattle.daggy_order.specs.Links.{IsLinkChain, nodes_from, neighbor}
 use Rattle.daggy_base.proofs.Sorted.{unique_cross}
 
+-- an element more, at the end
+pub unique_last : (xs : List ℕ) (y : ℕ) → Unique xs → (Mem y xs → ⊥) → Unique (xs ++ y ∷ [])
+unique_last [] y u d = (λ m. m, tt)
+unique_last (x ∷ xs) y u d = (
+  λ m. elim (mem_cases xs (y ∷ []) x m) [
+    | inl a ↦ u.0 a
+    | inr b ↦ elim b [ inl is ↦ d (inl (sym is)) | inr none ↦ none ]
+  ],
+  unique_last xs y u.1 (λ m. d (inr m)),
+)
+
 module _ (N P : ℕ → ℕ) where
   pub chain_append : (p : ℕ) (xs : List ℕ) (y : ℕ) (ys : List ℕ) (q : ℕ)
       → IsLinkChain N P p xs y → IsLinkChain N P y ys q → IsLinkChain N P p (xs ++ y ∷ ys) q
@@ -109,16 +120,6 @@ module _ (N P M Q : ℕ → ℕ) where
           | inr none ↦ none
         ]
       ])) left) (put_behind_start p n vs e w right fresh_right apart_right.0 last)
-    where
-      unique_last : (xs : List ℕ) (y : ℕ) → Unique xs → (Mem y xs → ⊥) → Unique (xs ++ y ∷ [])
-      unique_last [] y u d = (λ m. m, tt)
-      unique_last (x ∷ xs) y u d = (
-        λ m. elim (mem_cases xs (y ∷ []) x m) [
-          | inl a ↦ u.0 a
-          | inr b ↦ elim b [ inl is ↦ d (inl (sym is)) | inr none ↦ none ]
-        ],
-        unique_last xs y u.1 (λ m. d (inr m)),
-      )
 
   -- n is taken out
   pub record IsTaken (n : ℕ) : Type 0 where
@@ -159,6 +160,67 @@ module _ (N P M Q : ℕ → ℕ) where
       → IsTaken n → IsLinkChain N P e (us ++ n ∷ vs) e → Unique (e ∷ (us ++ vs)) → IsLinkChain M Q e (us ++ vs) e
   take_member n us vs e w c u =
       taken_between e us vs e w (chain_left N P e us n vs e c) (chain_right N P e us n vs e c) u u.0
+
+  -- n is renamed to m
+  pub record IsRenamed (n m : ℕ) : Type 0 where
+    pub to : M (P n) ≡ m
+    pub on : M m ≡ N n
+    pub ahead : (k : ℕ) → k ≢ P n → k ≢ m → M k ≡ N k
+    pub from : Q m ≡ P n
+    pub back_to : Q (N n) ≡ m
+    pub back : (k : ℕ) → k ≢ m → k ≢ N n → Q k ≡ P k
+
+  renamed_left : (s : ℕ) (us : List ℕ) {n m : ℕ} (vs : List ℕ) (e : ℕ) → IsRenamed n m → IsLinkChain N P s us n
+      → IsLinkChain N P n vs e → Unique (s ∷ (us ++ vs)) → (Mem e (us ++ vs) → ⊥) → (Mem m (s ∷ us) → ⊥)
+      → IsLinkChain M Q s us m
+  renamed_left s [] vs e w c d u apart fresh = (ap M (sym c.1) ∙ w.to, w.from ∙ c.1)
+  renamed_left s (t ∷ us) {n} vs e w c d u apart fresh = (
+    w.ahead s (λ is.
+        let A : ℕ → Type 0 = λ z. Mem z (t ∷ us) in
+        u.0 (mem_left (t ∷ us) vs s (subst A (sym is) (before_in N P t us n c.2)))) (λ is. fresh (inl (sym is))) ∙ c.0,
+    w.back t (λ is. fresh (inr (inl (sym is)))) (λ is.
+        let A : ℕ → Type 0 = λ z. Mem z (vs ++ e ∷ []) in
+        elim (mem_cases vs (e ∷ []) t (subst A (sym is) (after_in N P n vs e d))) [
+          | inl a ↦ u.1.0 (mem_right us vs t a)
+          | inr b ↦ elim b [ inl same ↦ apart (inl (sym same)) | inr none ↦ none ]
+        ]) ∙ c.1,
+    renamed_left t us vs e w c.2 d u.1 (λ h. apart (inr h)) (λ h. fresh (inr h)),
+  )
+
+  renamed_right : (n m : ℕ) (vs : List ℕ) (e : ℕ) → IsRenamed n m → IsLinkChain N P n vs e
+      → (Mem (P n) vs → ⊥) → (Mem m (vs ++ e ∷ []) → ⊥) → Unique (vs ++ e ∷ []) → IsLinkChain M Q m vs e
+  renamed_right n m [] e w d apart fresh u = (w.on ∙ d.0, ap Q (sym d.0) ∙ w.back_to)
+  renamed_right n m (v ∷ vs) e w d apart fresh u = (
+    w.on ∙ d.0,
+    ap Q (sym d.0) ∙ w.back_to,
+    chain_same v vs e (λ k h.
+        let A : ℕ → Type 0 = λ z. Mem z (v ∷ vs) in
+        w.ahead k (λ is. apart (subst A is h)) (λ is. fresh (mem_left (v ∷ vs) (e ∷ []) m (subst A is h)))) (λ k h.
+        let B : ℕ → Type 0 = λ z. Mem z (vs ++ e ∷ []) in
+        w.back k (λ is. fresh (inr (subst B is h))) (λ is. u.0 (subst B (is ∙ d.0) h))) d.2,
+  )
+
+  pub rename_member : (n m : ℕ) (us vs : List ℕ) (e : ℕ) → IsRenamed n m → IsLinkChain N P e (us ++ n ∷ vs) e
+      → Unique (e ∷ (us ++ vs)) → (Mem m (e ∷ (us ++ n ∷ vs)) → ⊥) → IsLinkChain M Q e (us ++ m ∷ vs) e
+  rename_member n m us vs e w c u' fresh =
+      let left = chain_left N P e us n vs e c in
+      let right = chain_right N P e us n vs e c in
+      let no_end : Mem e vs → ⊥ = λ h. u'.0 (mem_right us vs e h) in
+      let last : Unique (vs ++ e ∷ []) = unique_last vs e (unique_right us vs u'.1) no_end in
+      let apart : Mem (P n) vs → ⊥ = λ h. elim (before_in N P e us n left) [
+        | inl is ↦ no_end (let A : ℕ → Type 0 = λ z. Mem z vs in subst A is h)
+        | inr b ↦ unique_cross us vs u'.1 (P n) b h
+      ] in
+      let fresh_left : Mem m (e ∷ us) → ⊥ = λ h. elim h [
+        | inl is ↦ fresh (inl is)
+        | inr b ↦ fresh (inr (mem_left us (n ∷ vs) m b))
+      ] in
+      let fresh_right : Mem m (vs ++ e ∷ []) → ⊥ = λ h. elim (mem_cases vs (e ∷ []) m h) [
+        | inl a ↦ fresh (inr (mem_right us (n ∷ vs) m (inr a)))
+        | inr b ↦ elim b [ inl is ↦ fresh (inl is) | inr none ↦ none ]
+      ] in
+      chain_append M Q e us m vs e (renamed_left e us vs e w left right u' u'.0 fresh_left)
+      (renamed_right n m vs e w right apart fresh_right last)
 
 -- where a node leads
 pub neighbor_end : (end outer : ℕ) (links : List ℕ) → neighbor end outer links end ≡ outer

@@ -6,7 +6,8 @@ use Rattle.std.proofs.lemmas.List.{length-append}
 use Rattle.std.proofs.lemmas.List.Elements.{filter-append}
 use Rattle.daggy_base.specs.Cursor.{first_of}
 use Rattle.daggy_base.specs.Removal.{without}
-use Rattle.daggy_base.proofs.Lists.{Mem, Unique, mem_left, mem_right, mem_cases, mem_into, mem_mid, unique_right}
+use Rattle.daggy_base.proofs.Lists.{Mem, Unique, mem_left, mem_right, mem_cases, mem_into, mem_out, mem_mid}
+use Rattle.daggy_base.proofs.Lists.{unique_right}
 use Rattle.daggy_base.proofs.Lists.{fewer_than, split_at}
 use Rattle.daggy_base.proofs.Lists.{contains_mem, mem_contains, unique_from_distinct}
 use Rattle.daggy_order.specs.Links.{Listed, LeadsTo, IsLinkChain, AreLinksOf, nodes_from, neighbor}
@@ -14,7 +15,7 @@ use Rattle.daggy_base.proofs.Sorted.{distinct_from_unique, unique_cross}
 use Rattle.daggy_base.proofs.ListParts.{filter_yes, filter_no, is_held}
 use Rattle.daggy_order.proofs.Chains.{chain_same, IsPut, IsTaken, chain_left, chain_right, after_in, before_in}
 use Rattle.daggy_order.proofs.Chains.{put_behind_start, put_behind_member, take_member, neighbor_end, neighbor_node}
-use Rattle.daggy_order.proofs.Chains.{walk_is}
+use Rattle.daggy_order.proofs.Chains.{walk_is, unique_last, IsRenamed, rename_member}
 
 pub listed : {xs ys ks ls : List ℕ} {k l : ℕ} → xs ≡ ys → ks ≡ ls → k ≡ l
     → ◌≡◌ {A = Listed} (record { nodes = xs; labels = ks; capacity = k })
@@ -138,6 +139,18 @@ is_put {N} {M} {P} {Q} {p} {n} {q} N' P' not_p not_q is to on from back = record
   from = back.others n not_q ∙ from.led;
   back_to = ap Q (sym is) ∙ back.led;
   back = λ k a b. back.others k (λ e. b (e ∙ is)) ∙ from.others k a;
+}
+
+-- two joins link n between p and q, which stood on both sides of o; N' and P' are the links after the first
+pub is_renamed : {N M P Q : ℕ → ℕ} {o p n q : ℕ} (N' P' : ℕ → ℕ) → p ≡ P o → q ≡ N o → n ≢ p → n ≢ q
+    → LeadsTo N N' p n → LeadsTo N' M n q → LeadsTo P P' n p → LeadsTo P' Q q n → IsRenamed N P M Q o n
+is_renamed {N} {M} {P} {Q} {o} {p} {n} {q} N' P' is_p is_q not_p not_q to on from back = record {
+  to = ap M (sym is_p) ∙ (on.others p (λ e. not_p (sym e)) ∙ to.led);
+  on = on.led ∙ is_q;
+  ahead = λ k a b. on.others k b ∙ to.others k (λ e. a (e ∙ is_p));
+  from = back.others n not_q ∙ (from.led ∙ is_p);
+  back_to = ap Q (sym is_q) ∙ back.led;
+  back = λ k a b. back.others k (λ e. b (e ∙ is_q)) ∙ from.others k a;
 }
 
 -- a node that a list lacks is neither in it nor its end
@@ -288,16 +301,6 @@ module _ {end : ℕ} {next previous : List ℕ} {first last : ℕ} {xs : List �
     put_first_chain w =
         put_behind_start _ _ _ _ end n xs end w s.chained (λ h. not_led xs can.fresh n h refl) once.0
         (unique_last xs end once.1 once.0)
-      where
-        unique_last : (ys : List ℕ) (y : ℕ) → Unique ys → (Mem y ys → ⊥) → Unique (ys ++ y ∷ [])
-        unique_last [] y u d = (λ m. m, tt)
-        unique_last (x ∷ ys) y u d = (
-          λ m. elim (mem_cases ys (y ∷ []) x m) [
-            | inl a ↦ u.0 a
-            | inr b ↦ elim b [ inl is ↦ d (inl (sym is)) | inr none ↦ none ]
-          ],
-          unique_last ys y u.1 (λ m. d (inr m)),
-        )
 
     module _ (w : IsPut (neighbor end first next) (neighbor end last previous) (neighbor end now.first now.next)
         (neighbor end now.last now.previous) end n) (count : ℕ) (is : count ≡ length xs + 1) where
@@ -375,6 +378,61 @@ module _ {end : ℕ} {next previous : List ℕ} {first last : ℕ} {xs : List �
       put_kept =
           keeps now (are_links put_chain once_put (put_within (us ++ p ∷ (n ∷ vs)) from_put)) count
           count_put
+
+    -- o is renamed to n
+    module _ {o : ℕ} (w : IsRenamed (neighbor end first next) (neighbor end last previous)
+        (neighbor end now.first now.next) (neighbor end now.last now.previous) o n) (count : ℕ) (is : count ≡ length xs)
+        (us vs : List ℕ) (at : xs ≡ us ++ o ∷ vs) where
+      once_others : Unique (end ∷ (us ++ vs))
+      once_others =
+          let A : List ℕ → Type 0 = λ z. Unique (end ∷ z) in
+          let u = subst A at once in (λ h. u.0 (mem_into us vs o end h), unique_without us o vs u.1)
+
+      not_there : Mem n (end ∷ (us ++ o ∷ vs)) → ⊥
+      not_there = let A : List ℕ → Type 0 = λ z. Mem n (end ∷ z) → ⊥ in subst A at can.fresh
+
+      renamed_chain : IsLinkChain (neighbor end now.first now.next) (neighbor end now.last now.previous) end
+          (us ++ n ∷ vs) end
+      renamed_chain =
+          let A : List ℕ → Type 0 = λ z. IsLinkChain (neighbor end first next) (neighbor end last previous) end z end in
+          rename_member _ _ _ _ o n us vs end w (subst A at s.chained) once_others not_there
+
+      from_renamed : (m : ℕ) → Mem m (us ++ n ∷ vs) → (m ≡ n) ⊎ Mem m xs
+      from_renamed m h =
+          let A : List ℕ → Type 0 = λ z. Mem m z in
+          elim (mem_out us vs n m h) [
+            | inl e ↦ inl e
+            | inr b ↦ inr (subst A (sym at) (mem_into us vs o m b))
+          ]
+
+      once_renamed : Unique (end ∷ (us ++ n ∷ vs))
+      once_renamed = (
+        λ h. elim (from_renamed end h) [ inl e ↦ can.fresh (inl (sym e)) | inr b ↦ once.0 b ],
+        spread_in us n vs once_others.1 (λ h. not_there (inr (mem_into us vs o n h))),
+      )
+        where
+          spread_in : (rest : List ℕ) (y : ℕ) (bs : List ℕ)
+              → Unique (rest ++ bs) → (Mem y (rest ++ bs) → ⊥) → Unique (rest ++ y ∷ bs)
+          spread_in [] y bs u d = (d, u)
+          spread_in (a ∷ rest) y bs u d = (
+            λ h. elim (mem_out rest bs y a h) [ inl e ↦ d (inl (sym e)) | inr b ↦ u.0 b ],
+            spread_in rest y bs u.1 (λ h. d (inr h)),
+          )
+
+      count_renamed : count ≡ length (us ++ n ∷ vs)
+      count_renamed =
+          omega (
+            arith,
+            is,
+            ap (λ (z : List ℕ). length z) at,
+            length-append us (o ∷ vs),
+            length-append us (n ∷ vs),
+          )
+
+      pub renamed_kept : Keeps end now count (us ++ n ∷ vs)
+      renamed_kept =
+          keeps now (are_links renamed_chain once_renamed (put_within (us ++ n ∷ vs) from_renamed)) count
+          count_renamed
 
   -- n is taken out
   module _ (now : Linking) {n : ℕ} (long : length previous ≤ length now.previous)

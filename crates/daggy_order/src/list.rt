@@ -295,9 +295,7 @@ impl<Ix: IndexType> LabeledList<Ix> {
         let i = n.index();
         let _count = self.links.len();
         let label = self.links.label(i);
-        let n = Link::of_node(n);
-        self.links.put_after(n, Link::of_node(m));
-        self.links.remove(n);
+        self.links.rename(Link::of_node(n), Link::of_node(m));
         self.links.set_label(i, 0);
         self.links.set_label(m.index(), label);
     }

@@ -1,9 +1,9 @@
 //! A doubly linked list of labelled nodes.
 ghost use Rattle.std.specs.Prelude.{◌≡◌, ◌≢◌, ℕ, ◌+◌, ◌<◌, ◌≤◌, ◌⊎◌, ◌^◌, [], ◌∷◌, ◌++◌, List};
 ghost use Rattle.std.specs.Prelude.{Contains, length, vec_len, vec_capacity, slice_index};
-ghost use Rattle.std.specs.Prelude.{slice_index_or, slice_set, max, IfOk, IsOk, OnOk, OnErr};
+ghost use Rattle.std.specs.Prelude.{slice_index_or, slice_set, map, max, IfOk, IsOk, OnOk, OnErr};
 ghost use Rattle.daggy_base.specs.Cursor.{first_of};
-ghost use Rattle.daggy_base.specs.Removal.{without};
+ghost use Rattle.daggy_base.specs.Removal.{without, renamed};
 ghost use Rattle.daggy_base.specs.WellFormed.{AreDistinct};
 ghost use Rattle.daggy_order.specs.Links.{neighbor, nexts_of, previous_of, labels_of, vacant};
 ghost use Rattle.daggy_order.specs.Links.{LeadsTo};
@@ -403,6 +403,30 @@ impl<Ix: IndexType> Links<Ix> {
             next,
         );
         self.count -= 1;
+    }
+
+    /// Renames a node to `m`, in its place. Labels stay.
+    #[inline]
+    pub fn rename(&mut self, n: Link<Ix>, m: Link<Ix>)
+        requires held { Contains self.old.nodes n }
+        requires real { m ≢ Ix.greatest }
+        requires absent { ¬ Contains self.old.nodes m }
+        requires numbered { m < length self.old.labels }
+        ensures { self.new ≡ record {
+          nodes = map (renamed n m) self.old.nodes;
+          labels = self.old.labels;
+          capacity = self.old.capacity;
+        } }
+    {
+        let Item { next, previous, .. } = self.items[n.index()];
+        join(
+            &mut self.items,
+            &mut self.first,
+            &mut self.last,
+            previous,
+            m,
+        );
+        join(&mut self.items, &mut self.first, &mut self.last, m, next);
     }
 
     /// Takes all nodes out, and keeps the capacity.
