@@ -20,7 +20,7 @@ use std::alloc::AllocError;
 use std::io::Write;
 
 /// The number of nodes whose lists are read side by side.
-const AHEAD: usize = 16;
+const AHEAD: usize = 32;
 
 /// The greatest number of edges of each of these lists that are read.
 const MOST: usize = 32;

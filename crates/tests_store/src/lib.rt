@@ -1,7 +1,11 @@
-//! The two stores and what they are built on, by example.
+//! The two stores, what they are built on, and traversals of them, by example.
 #![tactic(auto)]
 
 #[cfg(test)]
 mod compact;
 #[cfg(test)]
 mod stable;
+#[cfg(test)]
+mod support;
+#[cfg(test)]
+mod traversal;

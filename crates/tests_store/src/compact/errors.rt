@@ -1,4 +1,5 @@
-use super::support::{holds, made, prints, same, shows};
+use super::support::{prints, shows};
+use crate::support::{holds, made, same};
 use daggy_base::error::{ChildError, EdgeError, EdgesError, ElementError, NodeError, WouldCycle};
 use std::error::Error;
 

@@ -1,5 +1,6 @@
 //! The compact store: nodes, edges and lists of a graph that may have cycles.
-use super::support::{PlainGraph, connect, graph_of, holds, made, same, shape};
+use super::support::{PlainGraph, connect, graph_of, shape};
+use crate::support::{holds, made, same};
 use daggy_base::index::{Direction, EdgeIndex, NodeIndex};
 use daggy_base::source::EdgeSource;
 use daggy_graph::graph::DiGraph;

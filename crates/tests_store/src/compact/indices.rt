@@ -1,4 +1,4 @@
-use super::support::{holds, made, same};
+use crate::support::{holds, made, same};
 use daggy_base::index::{DefaultIx, Direction, EdgeIndex, IndexType, NodeIndex};
 use std::collections::HashSet;
 

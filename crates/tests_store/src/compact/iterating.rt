@@ -1,5 +1,6 @@
 //! Iterators over all of a graph and over the lists of a node, and how a graph is printed.
-use super::support::{gives, graph_of, holds, made, same};
+use super::support::graph_of;
+use crate::support::{gives, holds, made, same};
 use daggy_base::index::{Direction, NodeIndex};
 use daggy_graph::graph::EdgeReference;
 use daggy_graph::graph::iterators::NodeReferences;

@@ -1,5 +1,6 @@
 //! Maps and parts of a graph.
-use super::support::{graph_of, holds, made, same, shape};
+use super::support::{graph_of, shape};
+use crate::support::{holds, made, same};
 use daggy_base::index::{Direction, EdgeIndex, NodeIndex};
 
 const EDGES: [(usize, usize, u32); 3] = [(0, 1, 100), (0, 2, 101), (1, 2, 102)];

@@ -1,4 +1,5 @@
-use super::support::{connect, holds, made};
+use super::support::connect;
+use crate::support::{holds, made};
 use daggy_base::index::NodeIndex;
 use daggy_base::source::EdgeSource;
 use daggy_graph::graph::DiGraph;

@@ -1,9 +1,5 @@
-//! The assertions, calls whose conditions are asserted first, and graphs as numbers.
-//!
-//! Each `assert_eq!` costs a proof, so it is written here once, and tests call it.
-ghost use Rattle.std.specs.Prelude.{◌≡◌, IsTrue, Ok};
-ghost use Rattle.std.specs.Iterator.{IsFinite};
-
+//! Calls whose conditions are asserted first, and graphs as numbers.
+use crate::support::{edge, made, node, same};
 use daggy_base::index::{EdgeIndex, IndexType, NodeIndex};
 use daggy_graph::graph::DiGraph;
 use std::alloc::Global;
@@ -12,18 +8,6 @@ use std::process::Abort;
 
 /// A graph whose weights are numbers.
 pub type PlainGraph = DiGraph<u32, u32>;
-
-/// Asserts that what was found is what is wanted.
-pub fn same<T: PartialEq + Debug + Drop>(rt: &impl Abort, found: T, wanted: T) {
-    assert_eq!(rt; found, wanted);
-}
-
-/// Asserts a fact, which calls after it may rest on.
-pub fn holds(rt: &impl Abort, fact: bool)
-    ensures { IsTrue fact }
-{
-    assert!(rt; fact);
-}
 
 /// Asserts that a value is printed as this text.
 pub fn prints<T: Display>(rt: &impl Abort, alloc: Global, value: &T, wanted: &str) {
@@ -35,33 +19,6 @@ pub fn prints<T: Display>(rt: &impl Abort, alloc: Global, value: &T, wanted: &st
 pub fn shows<T: Debug>(rt: &impl Abort, alloc: Global, value: &T, wanted: &str) {
     let text = made(rt, format!(in alloc; "{value:?}"));
     assert_eq!(rt; text.as_str(), wanted);
-}
-
-/// Asserts that a call succeeded, and returns its value.
-pub fn made<T: Drop, E: Drop>(rt: &impl Abort, answer: Result<T, E>) -> T
-    ensures { answer ≡ Ok result }
-{
-    match answer {
-        Ok(x) => x,
-        Err(_) => panic!(rt; "the call was refused"),
-    }
-}
-
-/// Asserts that an iterator yields these values and then ends.
-pub fn gives<T: PartialEq + Debug + Copy + Drop, I: Iterator<Item = T> + Drop>(
-    rt: &impl Abort,
-    items: I,
-    wanted: &[T],
-)
-    requires can { I.can_next items }
-    requires ends { IsFinite (I.remaining items) }
-{
-    let mut count = 0usize;
-    for x in items {
-        same(rt, Some(x), wanted.get(count).copied());
-        count = count.wrapping_add(1);
-    }
-    same(rt, count, wanted.len());
 }
 
 /// Adds an edge, with or without which the graph may have cycles.
@@ -94,17 +51,6 @@ pub fn graph_of(
         connect(rt, &mut graph, node(rt, *a), node(rt, *b), *weight);
     }
     graph
-}
-
-/// The index of a node.
-pub fn node<Ix: IndexType>(rt: &impl Abort, x: usize) -> NodeIndex<Ix> {
-    assert!(rt; x <= NodeIndex::<Ix>::end().index());
-    NodeIndex::new(x)
-}
-
-fn edge(rt: &impl Abort, x: usize) -> EdgeIndex {
-    assert!(rt; x <= EdgeIndex::<u32>::end().index());
-    EdgeIndex::new(x)
 }
 
 /// Asserts what the weights of the nodes are, and the ends and weights of the edges, all by index.

@@ -1,5 +1,6 @@
 //! Weights that are written: two at once, or all in turn.
-use super::support::{graph_of, holds, same, shape};
+use super::support::{graph_of, shape};
+use crate::support::{holds, same};
 use daggy_base::index::{EdgeIndex, NodeIndex};
 use std::mem;
 

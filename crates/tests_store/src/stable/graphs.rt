@@ -1,7 +1,6 @@
 //! The stable store: slots, lists and parts of a graph that may have cycles.
-use super::support::{
-    PlainGraph, first, graph_of, holds, made, put_edge, put_node, same, shape, slots,
-};
+use super::support::{PlainGraph, first, graph_of, put_edge, put_node, shape, slots};
+use crate::support::{holds, made, same};
 use daggy_base::index::{Direction, EdgeIndex, NodeIndex};
 use daggy_base::source::EdgeSource;
 use daggy_base::store::Store;

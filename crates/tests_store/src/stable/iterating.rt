@@ -1,5 +1,6 @@
 //! Iterators over all of a graph and over the lists of a node.
-use super::support::{PlainGraph, edge, gives, graph_of, holds, node, put_edge, same, slots};
+use super::support::{PlainGraph, graph_of, put_edge, slots};
+use crate::support::{edge, gives, holds, node, same};
 use daggy_base::index::{Direction, NodeIndex};
 use daggy_graph::graph::EdgeReference;
 use daggy_stable::stable_graph::iterators::NodeReferences;

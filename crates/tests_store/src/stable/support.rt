@@ -1,68 +1,12 @@
-//! The assertions, calls whose conditions are asserted first, and graphs as numbers.
-//!
-//! Each `assert_eq!` costs a proof, so it is written here once, and tests call it.
-ghost use Rattle.std.specs.Prelude.{◌≡◌, IsTrue, Ok};
-ghost use Rattle.std.specs.Iterator.{IsFinite};
-
+//! Calls whose conditions are asserted first, and graphs as numbers.
+use crate::support::{edge, made, node, same};
 use daggy_base::index::{Direction, EdgeIndex, NodeIndex};
 use daggy_stable::stable_graph::StableDiGraph;
 use std::alloc::Global;
-use std::fmt::Debug;
 use std::process::Abort;
 
 /// A graph whose weights are numbers, which may have cycles.
 pub type PlainGraph = StableDiGraph<u32, u32>;
-
-/// Asserts that what was found is what is wanted.
-pub fn same<T: PartialEq + Debug + Drop>(rt: &impl Abort, found: T, wanted: T) {
-    assert_eq!(rt; found, wanted);
-}
-
-/// Asserts a fact, which calls after it may rest on.
-pub fn holds(rt: &impl Abort, fact: bool)
-    ensures { IsTrue fact }
-{
-    assert!(rt; fact);
-}
-
-/// Asserts that a call succeeded, and returns its value.
-pub fn made<T: Drop, E: Drop>(rt: &impl Abort, answer: Result<T, E>) -> T
-    ensures { answer ≡ Ok result }
-{
-    match answer {
-        Ok(x) => x,
-        Err(_) => panic!(rt; "the call was refused"),
-    }
-}
-
-/// Asserts that an iterator yields these values and then ends.
-pub fn gives<T: PartialEq + Debug + Copy + Drop, I: Iterator<Item = T> + Drop>(
-    rt: &impl Abort,
-    items: I,
-    wanted: &[T],
-)
-    requires can { I.can_next items }
-    requires ends { IsFinite (I.remaining items) }
-{
-    let mut count = 0usize;
-    for x in items {
-        same(rt, Some(x), wanted.get(count).copied());
-        count = count.wrapping_add(1);
-    }
-    same(rt, count, wanted.len());
-}
-
-/// The index of a node.
-pub fn node(rt: &impl Abort, x: usize) -> NodeIndex {
-    assert!(rt; x <= NodeIndex::<u32>::end().index());
-    NodeIndex::new(x)
-}
-
-/// The index of an edge.
-pub fn edge(rt: &impl Abort, x: usize) -> EdgeIndex {
-    assert!(rt; x <= EdgeIndex::<u32>::end().index());
-    EdgeIndex::new(x)
-}
 
 /// Adds a node to a graph, and asserts which index it gets.
 pub fn put_node(rt: &impl Abort, graph: &mut PlainGraph, weight: u32, index: usize) {
