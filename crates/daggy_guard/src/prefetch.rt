@@ -9,10 +9,6 @@ use crate::walk::step;
 use daggy_base::index::{Direction, EdgeIndex, IndexType, NodeIndex};
 use daggy_base::store::Store;
 
-/// The number of edges from which on a graph is expected not to fit the second-level cache, so that
-/// a prefetch pays.
-pub const PREFETCH_FROM: usize = 1 << 15;
-
 /// Reads up to `most` edges of a list of a node. The answer is always true.
 #[inline]
 pub fn touch_list<Ix: IndexType, S: Store<Ix>>(

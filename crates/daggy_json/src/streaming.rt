@@ -12,8 +12,7 @@ use crate::text::TextWriter;
 use crate::values::write_weight;
 use daggy_base::index::{Direction, EdgeIndex, IndexType, NodeIndex};
 use daggy_base::store::Store;
-use daggy_guard::prefetch::PREFETCH_FROM;
-use daggy_guard::walk::step;
+use daggy_walk::prefetch::touch_lists;
 use json::Token;
 use serde_json::Value;
 use std::alloc::AllocError;
@@ -21,9 +20,6 @@ use std::io::Write;
 
 /// The number of nodes whose lists are read side by side.
 const AHEAD: usize = 32;
-
-/// The greatest number of edges of each of these lists that are read.
-const MOST: usize = 32;
 
 // The entry of an edge slot.
 fn stream_entry<
@@ -150,11 +146,8 @@ fn stream_row<W: Write, Ix: IndexType, S: Store<Ix>>(
     out.token(Token::EndArray);
 }
 
-// Reads the lists of that direction of the nodes from `from` up to `to` side by side, a prefetch. The
-// answer is always true.
-//
-// A walk along one list waits for each edge before the next one. These reads wait only for those of
-// their own list.
+// Reads ahead the lists of that direction of the nodes from `from` up to `to`. The answer is always
+// true.
 fn touch_side<Ix: IndexType, S: Store<Ix>>(
     store: &S,
     from: usize,
@@ -164,44 +157,22 @@ fn touch_side<Ix: IndexType, S: Store<Ix>>(
     requires { to ≤ Ix.greatest }
     ensures { IsTrue result }
 {
-    store.invariant();
-    let (nodes, edges) = (store.node_slots(), store.edge_slots());
-    let mut cursors = [edges; AHEAD];
+    let mut cursors = [store.edge_slots(); AHEAD];
     for i in from..to {
         if let Some(cursor) = cursors.get_mut(i - from) {
             *cursor = store.first_edge(NodeIndex::new(i), dir).index();
         }
     }
-    for _ in 0..MOST {
-        let mut left = false;
-        for k in 0..AHEAD {
-            if cursors[k] < edges {
-                left = true;
-                let mut e = EdgeIndex::new(cursors[k]);
-                if let Some((_, far)) = step(store, dir, &mut e) {
-                    if far.index() >= nodes {
-                        return false;
-                    }
-                }
-                cursors[k] = e.index();
-            }
-        }
-        if !left {
-            break;
-        }
-    }
-    true
+    touch_lists(store, dir, &mut cursors)
 }
 
-// Reads the lists of the nodes from `from` up to `to`, if the graph is large: a prefetch. The answer
-// is always true.
-fn touch_lists<Ix: IndexType, S: Store<Ix>>(store: &S, from: usize, to: usize) -> bool
+// Reads ahead both lists of the nodes from `from` up to `to`. The answer is always true.
+fn touch_nodes<Ix: IndexType, S: Store<Ix>>(store: &S, from: usize, to: usize) -> bool
     requires { to ≤ Ix.greatest }
     ensures { IsTrue result }
 {
-    store.edge_slots() < PREFETCH_FROM
-        || (touch_side(store, from, to, Direction::Outgoing)
-            && touch_side(store, from, to, Direction::Incoming))
+    touch_side(store, from, to, Direction::Outgoing)
+        && touch_side(store, from, to, Direction::Incoming)
 }
 
 // The lists of the nodes, by ascending index.
@@ -214,7 +185,7 @@ fn stream_orders<W: Write, Ix: IndexType, S: Store<Ix>>(store: &S, out: &mut Tex
     let mut i = 0;
     'nodes: while i < bound {
         // Never taken: this is a prefetch.
-        if i % AHEAD == 0 && !touch_lists(store, i, bound.min(i.saturating_add(AHEAD))) {
+        if i % AHEAD == 0 && !touch_nodes(store, i, bound.min(i.saturating_add(AHEAD))) {
             return;
         }
         let n = NodeIndex::new(i);

@@ -8,6 +8,7 @@ ghost use Rattle.daggy_reduction.specs.Comparison.{IsAscending};
 ghost use Rattle.std.specs.Borrow.{sem};
 ghost use Rattle.daggy_reduction.specs.KeptRoom.{keeps_room};
 
+use crate::ahead::{Nothing, ReadAhead};
 use crate::arcs::list_arcs;
 use crate::block::flag_block;
 use crate::flags::{collect_flags, unflag};
@@ -19,7 +20,7 @@ use daggy_order::order::Order;
 use daggy_search::{Adjacency, Row, Scratch, Worklist};
 
 // Flags the edges that are redundant below some roots, block by block.
-fn flag_blocks<Ix: IndexType, S: EdgeSource<Ix>>(
+fn flag_blocks<Ix: IndexType, S: EdgeSource<Ix>, A: ReadAhead<Ix, S>>(
     source: &mut S,
     order: &Order<Ix>,
     roots: &[NodeIndex<Ix>],
@@ -49,7 +50,7 @@ fn flag_blocks<Ix: IndexType, S: EdgeSource<Ix>>(
     let _well_formed = source.node_bound();
     unflag(flags);
     let count = list_below(source, order, roots, work);
-    list_arcs(source, work, count, adjacency);
+    list_arcs::<Ix, S, A>(source, work, count, adjacency);
     let mut low = 0;
     'sweep: while low < count {
         low = flag_block(source, work, adjacency, low, count, rows, flags);
@@ -57,8 +58,8 @@ fn flag_blocks<Ix: IndexType, S: EdgeSource<Ix>>(
 }
 
 // Writes the redundant edges below some roots to the front of `scratch.found`, and returns how many
-// there are.
-pub(crate) fn leave_redundant_by_blocks<Ix: IndexType, S: EdgeSource<Ix>>(
+// there are. `A` tells what is read ahead.
+pub(crate) fn leave_redundant_by_blocks<Ix: IndexType, S: EdgeSource<Ix>, A: ReadAhead<Ix, S>>(
     source: &mut S,
     order: &Order<Ix>,
     roots: &[NodeIndex<Ix>],
@@ -86,7 +87,7 @@ pub(crate) fn leave_redundant_by_blocks<Ix: IndexType, S: EdgeSource<Ix>>(
     let adjacency = &mut scratch.adjacency;
     let rows = scratch.rows.as_mut_slice();
     let flags = scratch.found.as_mut_slice();
-    flag_blocks(source, order, roots, work, adjacency, rows, flags);
+    flag_blocks::<Ix, S, A>(source, order, roots, work, adjacency, rows, flags);
     collect_flags(flags, bound)
 }
 
@@ -116,6 +117,6 @@ pub fn redundant_edges_by_blocks<'s, Ix: IndexType, S: EdgeSource<Ix>>(
         ≤ S.looks source.old + 2 * edge_count (S.graph source.old) }
     ensures* rests { sem 𝓛 (keeps_room Ix.row Ix.IndexType scratch.entry) }
 {
-    let count = leave_redundant_by_blocks(source, order, roots, scratch);
+    let count = leave_redundant_by_blocks::<Ix, S, Nothing>(source, order, roots, scratch);
     front(scratch.found.as_slice(), count)
 }

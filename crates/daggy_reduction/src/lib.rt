@@ -3,6 +3,7 @@
 #![tactic(auto)]
 
 pub mod affected;
+mod ahead;
 mod arcs;
 mod bfs;
 mod block;

@@ -9,10 +9,11 @@ ghost use Rattle.daggy_traversal.specs.Traversal.{first_new, without_old, neighb
 ghost use Rattle.daggy_traversal.specs.Depth.{IsDepthFirst, IsDepthStep, next_in_depth, ahead};
 
 use crate::given::Given;
-use crate::neighbors::{next_new, touch_edge};
+use crate::neighbors::next_new;
 use daggy_base::index::{DefaultIx, Direction, EdgeIndex, IndexType, NodeIndex};
 use daggy_base::link::Link;
 use daggy_base::store::Store;
+use daggy_walk::prefetch::touch_edge;
 use daggy_walk::visit::NodeSet;
 use daggy_walk::walker::{FiniteWalker, FusedWalker, Walker};
 use std::alloc::{AllocError, Global};

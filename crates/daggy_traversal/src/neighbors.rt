@@ -1,5 +1,5 @@
 //! Reading the list of a node.
-ghost use Rattle.std.specs.Prelude.{◌≡◌, ℕ, List, [], ◌∷◌, None, IfNone, IfSome, IsTrue};
+ghost use Rattle.std.specs.Prelude.{◌≡◌, ℕ, List, [], ◌∷◌, None, IfNone, IfSome};
 ghost use Rattle.daggy_base.specs.Graph.{HasNode, edge_at};
 ghost use Rattle.daggy_traversal.specs.Traversal.{IsNeighbor, AreMarked, far_of, neighbors_left};
 ghost use Rattle.daggy_traversal.specs.Traversal.{without_old};
@@ -36,19 +36,6 @@ fn far_end<Ix: IndexType>(
     match dir {
         Direction::Outgoing => child,
         Direction::Incoming => parent,
-    }
-}
-
-/// Reads an edge that is followed later: a prefetch. The answer is always true; the compiler does
-/// not know that, so it keeps the read.
-#[inline]
-pub fn touch_edge<Ix: IndexType, S: Store<Ix>>(graph: &S, e: EdgeIndex<Ix>) -> bool
-    ensures { IsTrue result }
-{
-    graph.invariant();
-    match graph.edge_endpoints(e) {
-        Some(ends) => ends.0.index() < graph.node_slots(),
-        None => true,
     }
 }
 

@@ -2,5 +2,6 @@
 #![tactic(auto)]
 
 mod bits;
+pub mod prefetch;
 pub mod visit;
 pub mod walker;

@@ -12,8 +12,8 @@ use Rattle.daggy_json.proofs.WrittenTokens.{slot_filled, slot_vacant, writes_mor
 use Rattle.daggy_json.proofs.streaming.stream_orders.Goals as goal
 use Rattle.daggy_json.proofs.streaming.stream_orders.Goals.{then-contains_node, else-contains_node}
 
-pub touch_lists-requires : goal.touch_lists-requires
-touch_lists-requires g c =
+pub touch_nodes-requires : goal.touch_nodes-requires
+touch_nodes-requires g c =
     omega (
       arith,
       c.min.ensures,
