@@ -3,7 +3,7 @@
 # instructions and misses of the first-level data cache, as callgrind simulates it, for each node or edge.
 #   instructions.sh PEER_BENCH NODES EDGES
 # PEER_BENCH is as for compare.sh, and reads CLOCK_PROCESS_CPUTIME_ID before and after what it times. Needs Debian's
-# valgrind and gcc.
+# valgrind and gcc. With OUR_BENCH in the environment, that program is counted as ours, and nothing is built.
 set -eu
 peer_bench=$(realpath "$1")
 nodes=$2
