@@ -1,21 +1,26 @@
 -- A block worked through, node by node from the last to the first, while rows are written and edges are flagged.
-use Rattle.std.proofs.Common.{◌≡◌, ℕ, suc, ◌+◌, ◌<◌, ◌≤◌, Bool, true, false, ◌⊎◌, ◌↔◌, inl, inr, List, []}
-use Rattle.std.proofs.Common.{length, get_or, set, refl, sym, subst, ◌∙◌, arith, Contains}
+use Rattle.std.proofs.Common.{◌≡◌, ℕ, suc, ◌+◌, ◌<◌, ◌≤◌, Bool, true, false, ◌⊎◌, ◌↔◌, inl, inr, List}
+use Rattle.std.proofs.Common.{length, get_or, set, length-set, refl, sym, ap, subst, ◌∙◌, arith, Contains}
 use Rattle.std.proofs.lemmas.Bool.{cases_eq}
 use Rattle.daggy_base.specs.Graph.{Graph}
 use Rattle.daggy_base.specs.Reduction.{ReachesIndirectly}
 use Rattle.daggy_base.specs.WellFormed.{IsWellFormed}
 use Rattle.daggy_base.proofs.OutEdgesRead.{joins}
-use Rattle.daggy_search.specs.declared.adjacency.Arc.{Arc}
+use Rattle.daggy_search.specs.declared.arcs.Arc.{Arc}
+use Rattle.daggy_search.specs.declared.arcs.Segment.{Segment}
 use Rattle.daggy_reduction.specs.Flags.{IsFlagged}
-use Rattle.daggy_reduction.proofs.BlockRows.{AreRows}
-use Rattle.daggy_reduction.specs.Blocks.{IsPlaced, HasBits, AreArcsOf, HasArcTo, MarksArcs, is_in_row, LeadsInto}
-use Rattle.daggy_reduction.proofs.BlockRows.{LeadsFrom, HasChildAt, HasChildWith, to_children, there, listed_at}
-use Rattle.daggy_reduction.proofs.BlockRows.{row_direct, row_indirect, row_both, rows_on, flags_here}
+use Rattle.daggy_reduction.proofs.BlockRows.{AreRows, IsRow}
+use Rattle.daggy_reduction.specs.Blocks.{IsPlaced, HasBits, HasBit, AreArcsOf, AreArcs, AreLaidOut, AreLeft, HasArcTo}
+use Rattle.daggy_reduction.specs.Blocks.{ArePassedOn, MarksArcs, is_in_row, segment_at, LeadsInto}
+use Rattle.daggy_reduction.proofs.SegmentArcs.{arcs_same, arcs_later}
+use Rattle.daggy_reduction.proofs.LaidOut.{laid_out_shorter, others_kept, here_is}
+use Rattle.daggy_reduction.proofs.BlockRows.{LeadsFrom, there, listed_at}
+use Rattle.daggy_reduction.proofs.BlockRows.{row_direct, row_indirect, rows_pass, row_both, rows_on, flags_here, arcs_left}
 
 -- What is worked through: the graph and the number past all its edges, the nodes and their places, the block, how many
--- rows there are, and the flags from before.
-pub record Task (N E : Type 0) : Type 0 where
+-- rows, arcs and segments there are, and the flags from before.
+pub record Task (N E I : Type 0) : Type 0 where
+  pub number : I → ℕ
   pub end : ℕ
   pub graph : Graph N E
   pub nodes : List ℕ
@@ -23,31 +28,46 @@ pub record Task (N E : Type 0) : Type 0 where
   pub low : ℕ
   pub high : ℕ
   pub room : ℕ
+  pub segments : ℕ
   pub flags : List ℕ
 
--- How far it is: the rows, the flags, and how many nodes are left.
-pub record Progress : Type 0 where
+-- How far it is: the rows, the arcs and their segments, the flags, and how many nodes are left.
+pub record Progress (I : Type 0) : Type 0 where
   pub rows : List (List Bool)
+  pub arcs : List (Arc I)
+  pub segments : List Segment
   pub flags : List ℕ
   pub left : ℕ
 
--- the nodes behind those that are left have their rows, and the flags of their edges
-pub record Working {N E : Type 0} (t : Task N E) (now : Progress) : Type 0 where
+-- the nodes behind those that are left have their rows, and the flags of their edges, and no arc that has a flag
+pub record Working {N E I : Type 0} (t : Task N E I) (now : Progress I) : Type 0 where
   pub within : now.left ≤ t.high
   pub sized : length now.flags ≡ length t.flags
   pub roomy : length now.rows ≡ t.room
+  pub parted : length now.segments ≡ t.segments
+  pub laid_out : AreLaidOut (length t.nodes) (length now.arcs) now.segments
+  pub ahead : (k : ℕ) → k < now.left
+      → AreArcsOf t.number t.graph t.places t.low (get_or t.nodes k 0) now.arcs (segment_at now.segments k)
+  pub behind : (k : ℕ) → now.left ≤ k → k < length t.nodes
+      → AreArcsOf t.number t.graph t.places t.high (get_or t.nodes k 0) now.arcs (segment_at now.segments k)
   pub rows : AreRows t.graph t.nodes t.low t.high now.left now.rows
   pub flagged : (e : ℕ) → IsFlagged t.end now.flags e
       ↔ (IsFlagged t.end t.flags e
       ⊎ ((m : ℕ) × (now.left ≤ m) × (m < t.high) × LeadsFrom t.graph t.places t.low t.high (get_or t.nodes m 0) e))
 
-pub work_start : {N E : Type 0} (t : Task N E) (rows : List (List Bool)) → length rows ≡ t.room
-    → Working t record { rows = rows; flags = t.flags; left = t.high }
-work_start t rows roomy =
+pub work_start : {N E I : Type 0} (t : Task N E I) (rows : List (List Bool)) (arcs : List (Arc I)) (segments : List Segment)
+    → length rows ≡ t.room → length segments ≡ t.segments → t.low ≤ t.high → t.high ≤ length t.nodes
+    → AreArcs t.number t.graph t.nodes t.places t.low arcs segments
+    → Working t record { rows = rows; arcs = arcs; segments = segments; flags = t.flags; left = t.high }
+work_start t rows arcs segments roomy parted up inside are =
     record {
       within = omega arith;
       sized = refl;
       roomy = roomy;
+      parted = parted;
+      laid_out = are.laid_out;
+      ahead = λ k low. are.each k (omega (arith, low, inside));
+      behind = λ k from low. arcs_later up (are.each k low);
       rows = λ m from till. absurd (omega (arith, from, till));
       flagged = λ e. (
         λ f. inl f,
@@ -55,75 +75,105 @@ work_start t rows roomy =
       );
     }
 
-module _ {N E : Type 0} {t : Task N E} (w : IsWellFormed t.end t.graph) (pl : IsPlaced t.graph t.nodes t.places)
-    (inside : t.high ≤ length t.nodes) {now : Progress} (s : Working t now) where
-  module _ {I : Type 0} (number : I → ℕ) (m : ℕ) (m_is : suc m ≡ now.left) (arcs : List (Arc I))
-      (are : AreArcsOf number t.graph t.places (get_or t.nodes m 0) arcs) (direct indirect row : List Bool)
-      (d : HasBits (λ i. HasArcTo arcs (λ p. (p < t.high) × (p ≡ t.low + i))) direct)
-      (r : HasBits (λ i. HasArcTo arcs (λ p.
-      (p < t.high) × (get_or (get_or now.rows p []) i false ≡ true))) indirect) (flags' : List ℕ)
-      (marked : MarksArcs t.end number arcs (is_in_row t.low t.high indirect) now.flags flags')
-      (both : (i : ℕ)
-      → (get_or row i false ≡ true) ↔ ((get_or direct i false ≡ true) ⊎ (get_or indirect i false ≡ true))) where
+module _ {N E I : Type 0} {t : Task N E I} (w : IsWellFormed t.end t.graph) (pl : IsPlaced t.graph t.nodes t.places)
+    (inside : t.high ≤ length t.nodes) {now : Progress I} (s : Working t now) where
+  module _ (m : ℕ) (m_is : suc m ≡ now.left) where
     abbrev n : ℕ
     n = get_or t.nodes m 0
 
     here : m < length t.nodes
     here = omega (arith, m_is, s.within, inside)
 
-    d₀ : HasBits (HasChildAt t.graph t.places t.low t.high n) direct
-    d₀ i =
-        let c = to_children number w t.places n arcs are (λ p. (p < t.high) × (p ≡ t.low + i)) in (
-          λ f. (let q = c.0 ((d i).0 f) in (q.0, q.1, q.2.0, q.2.1)),
-          λ q. (d i).1 (c.1 (q.0, q.1, (q.2, q.3))),
-        )
+    abbrev seg : Segment
+    seg = segment_at now.segments m
 
-    r₀ : HasBits (HasChildWith t.graph t.places t.high now.rows n) indirect
-    r₀ i =
-        let c =
-        to_children number w t.places n arcs are (λ p. (p < t.high) × (get_or (get_or now.rows p []) i false ≡ true)) in (
-          λ f. (let q = c.0 ((r i).0 f) in (q.0, q.1, q.2.0, q.2.1)),
-          λ q. (r i).1 (c.1 (q.0, q.1, (q.2, q.3))),
-        )
+    pub arcs_are : AreArcsOf t.number t.graph t.places t.low n now.arcs seg
+    arcs_are = s.ahead m (omega (arith, m_is))
 
     rows_are : AreRows t.graph t.nodes t.low t.high (suc m) now.rows
     rows_are =
         let P : ℕ → Type 0 = λ z. AreRows t.graph t.nodes t.low t.high z now.rows in subst P (sym m_is) s.rows
 
-    pub work_on : (rows' : List (List Bool)) → rows' ≡ set now.rows m row → m < length now.rows
-        → length rows' ≡ length now.rows → length flags' ≡ length now.flags
-        → Working t record { rows = rows'; flags = flags'; left = m }
-    work_on rows' rows_is room rows_kept flags_kept =
-        let d₁ = row_direct pl t.low t.high inside m here direct d₀ in
-        let r₁ = row_indirect pl t.low t.high inside m here now.rows indirect rows_are r₀ in
-        let b₁ = row_both pl t.low t.high inside m here direct indirect row d₁ r₁ both in
-        let on = rows_on pl t.low t.high inside m here now.rows row room rows_are b₁ in
-        let R : List (List Bool) → Type 0 = λ z. AreRows t.graph t.nodes t.low t.high m z in
-        let F : ℕ → ℕ → Type 0 = λ e z. LeadsFrom t.graph t.places t.low t.high (get_or t.nodes z 0) e in
-        record {
-          within = omega (arith, m_is, s.within);
-          sized = flags_kept ∙ s.sized;
-          roomy = rows_kept ∙ s.roomy;
-          rows = subst R (sym rows_is) on;
-          flagged = λ e.
-              (let f = flags_here pl t.low t.high inside m here number w arcs are indirect r₁ now.flags flags' marked e in (
-                λ h. elim (f.0 h) [
-                  | inl a ↦ elim ((s.flagged e).0 a) [
-                    | inl b ↦ inl b
-                    | inr late ↦ inr (late.0, omega (arith, late.1, m_is), late.2, late.3)
-                  ]
-                  | inr l ↦ inr (m, omega arith, omega (arith, m_is, s.within), l)
-                ],
-                λ h. f.1 (elim h [
-                  | inl a ↦ inl ((s.flagged e).1 (inl a))
-                  | inr late ↦ elim (cases_eq late.0 m) [
-                    | inl is ↦ inr (let P : ℕ → Type 0 = λ z. F e z in subst P is late.3)
-                    | inr other ↦
-                        inl ((s.flagged e).1 (inr (late.0, omega (arith, late.1, other, m_is), late.2, late.3)))
-                  ]
-                ]),
-              ));
-        }
+    pub passed_on : ArePassedOn now.arcs seg t.low t.high now.rows
+    passed_on = rows_pass pl t.low t.high inside m here t.number w now.arcs seg arcs_are now.rows rows_are
+
+    module _ (direct indirect row : List Bool)
+        (d : HasBits t.low t.high (λ i. HasArcTo now.arcs seg (λ p. p ≡ t.low + i)) direct)
+        (r : HasBits t.low t.high (λ i. HasArcTo now.arcs seg (λ p. (p < t.high) × HasBit now.rows p i)) indirect)
+        (flags' : List ℕ) (marked : MarksArcs t.end t.number now.arcs seg (is_in_row t.low t.high indirect) now.flags flags')
+        (both : (i : ℕ)
+        → (get_or row i false ≡ true) ↔ ((get_or direct i false ≡ true) ⊎ (get_or indirect i false ≡ true)))
+        (stop : ℕ) (arcs' : List (Arc I))
+        (left : AreLeft (is_in_row t.low t.high indirect) seg stop now.arcs arcs') where
+      r₁ : IsRow t.nodes t.low t.high (ReachesIndirectly t.graph n) indirect
+      r₁ = row_indirect pl t.low t.high inside m here t.number w now.arcs seg arcs_are now.rows indirect rows_are r
+
+      pub work_on : (rows' : List (List Bool)) → rows' ≡ set now.rows m row → m < length now.rows
+          → length rows' ≡ length now.rows → length flags' ≡ length now.flags → (segments' : List Segment)
+          → segments' ≡ set now.segments m (record { begin = seg.begin; end = stop })
+          → length t.nodes ≤ length now.segments → t.low < t.high
+          → Working t record { rows = rows'; arcs = arcs'; segments = segments'; flags = flags'; left = m }
+      work_on rows' rows_is room rows_kept flags_kept segments' segments_are fits some =
+          let d₁ = row_direct pl t.low t.high inside m here t.number w now.arcs seg arcs_are direct d in
+          let b₁ = row_both pl t.low t.high inside m here direct indirect row d₁ r₁ both in
+          let on = rows_on pl t.low t.high inside m here now.rows row room rows_are b₁ in
+          let R : List (List Bool) → Type 0 = λ z. AreRows t.graph t.nodes t.low t.high m z in
+          let F : ℕ → ℕ → Type 0 = λ e z. LeadsFrom t.graph t.places t.low t.high (get_or t.nodes z 0) e in
+          let L : List Segment → Type 0 = λ z. AreLaidOut (length t.nodes) (length arcs') z in
+          record {
+            within = omega (arith, m_is, s.within);
+            sized = flags_kept ∙ s.sized;
+            roomy = rows_kept ∙ s.roomy;
+            parted = ap length segments_are ∙ length-set now.segments m _ ∙ s.parted;
+            laid_out =
+                subst L (sym segments_are)
+                (laid_out_shorter s.laid_out m here fits stop left.from left.till left.length_kept);
+            ahead = λ k low.
+                (let S : List Segment → Type 0 = λ z.
+                AreArcsOf t.number t.graph t.places t.low (get_or t.nodes k 0) arcs' (segment_at z k) in
+                subst S (sym segments_are)
+                (arcs_same (others_kept s.laid_out m here fits stop left.from left.till now.arcs arcs' left.others k
+                (λ is. omega (arith, low, is)) (omega (arith, low, here))) (s.ahead k (omega (arith, low, m_is)))));
+            behind = λ k from low. subst (Behind k) (sym segments_are) (elim (cases_eq k m) [
+              | inl is ↦
+                  (let P : ℕ → Type 0 = λ z. Behind z (set now.segments m (record { begin = seg.begin; end = stop })) in
+                  subst P (sym is)
+                  (arcs_same (here_is s.laid_out m here fits stop left.from left.till arcs')
+                  (arcs_left pl t.low t.high inside m here t.number w now.arcs seg arcs_are indirect r₁ some stop arcs' left)))
+              | inr apart ↦
+                  arcs_same (others_kept s.laid_out m here fits stop left.from left.till now.arcs arcs' left.others k apart
+                  low) (s.behind k (omega (arith, from, apart, m_is)) low)
+            ]);
+            rows = subst R (sym rows_is) on;
+            flagged = λ e.
+                (let f =
+                flags_here pl t.low t.high inside m here t.number w now.arcs seg arcs_are indirect r₁ now.flags flags'
+                marked e in (
+                  λ h. elim (f.0 h) [
+                    | inl a ↦ elim ((s.flagged e).0 a) [
+                      | inl b ↦ inl b
+                      | inr late ↦ inr (late.0, omega (arith, late.1, m_is), late.2, late.3)
+                    ]
+                    | inr l ↦ inr (m, omega arith, omega (arith, m_is, s.within), l)
+                  ],
+                  λ h. f.1 (elim h [
+                    | inl a ↦ inl ((s.flagged e).1 (inl a))
+                    | inr late ↦ elim (cases_eq late.0 m) [
+                      | inl is ↦ inr (let P : ℕ → Type 0 = λ z. F e z in subst P is late.3)
+                      | inr other ↦
+                          inl ((s.flagged e).1 (inr (late.0, omega (arith, late.1, other, m_is), late.2, late.3)))
+                    ]
+                  ]),
+                ));
+          }
+        where
+          Behind : ℕ → List Segment → Type 0
+          Behind k z = AreArcsOf t.number t.graph t.places t.high (get_or t.nodes k 0) arcs' (segment_at z k)
+
+  -- with none left, each node has its arcs
+  pub work_listed : now.left ≡ 0 → AreArcs t.number t.graph t.nodes t.places t.high now.arcs now.segments
+  work_listed none =
+      record { laid_out = s.laid_out; each = λ k low. s.behind k (omega (arith, none)) low }
 
   -- with none left, exactly the edges that lead into the block are flagged since
   pub work_done : now.left ≡ 0 → (e : ℕ) → IsFlagged t.end now.flags e

@@ -7,53 +7,69 @@ use Rattle.daggy_base.specs.Reduction.{IsBelow, IsRedundant}
 use Rattle.daggy_base.specs.WellFormed.{IsWellFormed}
 use Rattle.daggy_base.proofs.OutEdgesRead.{joins}
 use Rattle.daggy_reduction.specs.Flags.{IsFlagged}
-use Rattle.daggy_reduction.specs.Blocks.{IsPlaced, LeadsInto}
+use Rattle.daggy_search.specs.declared.arcs.Arc.{Arc}
+use Rattle.daggy_search.specs.declared.arcs.Segment.{Segment}
+use Rattle.daggy_reduction.specs.Blocks.{IsPlaced, AreArcs, LeadsInto}
 use Rattle.daggy_reduction.proofs.BlockRows.{there}
 
--- What is worked through: the graph and the number past all its edges, the nodes and their places, and how many rows
--- and flags there are.
-pub record Plan (N E : Type 0) : Type 0 where
+-- What is worked through: the graph and the number past all its edges, the nodes and their places, and how many rows,
+-- segments and flags there are.
+pub record Plan (N E I : Type 0) : Type 0 where
+  pub number : I → ℕ
   pub end : ℕ
   pub graph : Graph N E
   pub nodes : List ℕ
   pub places : List ℕ
   pub rows : ℕ
+  pub segments : ℕ
   pub flags : ℕ
 
--- How far it is: how many rows there are, the flags, and where the next block begins.
-pub record Stage : Type 0 where
+-- How far it is: how many rows there are, the arcs, the flags, and where the next block begins.
+pub record Stage (I : Type 0) : Type 0 where
   pub rows : ℕ
+  pub arcs : List (Arc I)
+  pub segments : List Segment
   pub flags : List ℕ
   pub low : ℕ
 
 -- exactly the redundant edges that lead to the nodes of the blocks so far are flagged
-pub record Blocks {N E : Type 0} (plan : Plan N E) (now : Stage) : Type 0 where
+pub record Blocks {N E I : Type 0} (plan : Plan N E I) (now : Stage I) : Type 0 where
   pub within : now.low ≤ length plan.nodes
   pub sized : length now.flags ≡ plan.flags
   pub roomy : now.rows ≡ plan.rows
+  pub parted : length now.segments ≡ plan.segments
+  pub listed : AreArcs plan.number plan.graph plan.nodes plan.places now.low now.arcs now.segments
   pub flagged : (e : ℕ) → IsFlagged plan.end now.flags e ↔ LeadsInto plan.graph plan.nodes plan.places 0 now.low e
 
-pub blocks_start : {N E : Type 0} (plan : Plan N E) (flags : List ℕ) → length flags ≡ plan.flags
-    → ((e : ℕ) → ¬ IsFlagged plan.end flags e) → Blocks plan record { rows = plan.rows; flags = flags; low = 0 }
-blocks_start plan flags sized none =
+pub blocks_start : {N E I : Type 0} (plan : Plan N E I) (flags : List ℕ) → length flags ≡ plan.flags
+    → ((e : ℕ) → ¬ IsFlagged plan.end flags e) → (arcs : List (Arc I)) (segments : List Segment)
+    → length segments ≡ plan.segments → AreArcs plan.number plan.graph plan.nodes plan.places 0 arcs segments
+    → Blocks plan record { rows = plan.rows; arcs = arcs; segments = segments; flags = flags; low = 0 }
+blocks_start plan flags sized none arcs segments parted listed =
     record {
       within = omega arith;
       sized = sized;
       roomy = refl;
+      parted = parted;
+      listed = listed;
       flagged = λ e. (λ f. absurd (none e f), λ l. absurd (omega (arith, l.till)));
     }
 
-module _ {N E : Type 0} {plan : Plan N E} {now : Stage} (s : Blocks plan now) where
+module _ {N E I : Type 0} {plan : Plan N E I} {now : Stage I} (s : Blocks plan now) where
   pub blocks_on : (high : ℕ) → high ≤ length plan.nodes → now.low < high → (rows' : ℕ) (flags' : List ℕ)
       → rows' ≡ now.rows → length flags' ≡ length now.flags
       → ((e : ℕ) → IsFlagged plan.end flags' e
       ↔ (IsFlagged plan.end now.flags e ⊎ LeadsInto plan.graph plan.nodes plan.places now.low high e))
-      → Blocks plan record { rows = rows'; flags = flags'; low = high }
-  blocks_on high fits up rows' flags' rows_kept flags_kept flagged' =
+      → (arcs' : List (Arc I)) (segments' : List Segment) → length segments' ≡ length now.segments
+      → AreArcs plan.number plan.graph plan.nodes plan.places high arcs' segments'
+      → Blocks plan record { rows = rows'; arcs = arcs'; segments = segments'; flags = flags'; low = high }
+  blocks_on high fits up rows' flags' rows_kept flags_kept flagged' arcs' segments' parted' listed' =
       record {
         within = fits;
         sized = flags_kept ∙ s.sized;
         roomy = rows_kept ∙ s.roomy;
+        parted = parted' ∙ s.parted;
+        listed = listed';
         flagged = λ e. (
           λ f. elim ((flagged' e).0 f) [
             | inl a ↦

@@ -20,6 +20,9 @@ pub mod QueuedChildren
 pub mod BoundedQueue
 pub mod SpannedLooks
 pub mod ListedArcs
+pub mod SegmentArcs
+pub mod LaidOut
+pub mod CountedArcs
 pub mod PassedArcs
 pub mod MarkedPlaces
 pub mod BlockRows

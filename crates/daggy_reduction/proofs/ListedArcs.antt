@@ -1,12 +1,9 @@
--- The edges that leave nodes listed side by side, one by one.
-use Rattle.std.proofs.Common.{◌≡◌, ◌≢◌, ℕ, suc, ◌+◌, ◌<◌, ◌≤◌, ◌⊎◌, ◌↔◌, inl, inr, Option, None, Some, List, [], ◌∷◌, ◌++◌}
-use Rattle.std.proofs.Common.{zero, length, get_or, take, drop, refl, sym, ap, subst, ◌∙◌, arith, Contains, count_by, is_some}
+-- The edges that leave nodes listed side by side, along their lists.
+use Rattle.std.proofs.Common.{◌≡◌, ◌≢◌, ℕ, suc, ◌+◌, ◌<◌, ◌≤◌, ◌⊎◌, ◌↔◌, inl, inr, Option, None, Some, List, [], ◌∷◌}
+use Rattle.std.proofs.Common.{zero, length, length-set, get_or, set, take, drop, refl, sym, ap, subst, ◌∙◌, arith, count_by, is_some}
 use Rattle.std.proofs.lemmas.Bool.{cases_lt}
 use Rattle.std.proofs.lemmas.Option.{same_Some}
-use Rattle.std.proofs.lemmas.List.{take_more, length-append}
-use Rattle.std.proofs.Math.ListN.{get_or-append}
-use Rattle.std.proofs.Math.Seq.{get_or-append_seam}
-use Rattle.std.proofs.lemmas.List.Elements.{Contains-append_left, Contains-append_right, Contains-append_cases}
+use Rattle.std.proofs.lemmas.List.{take_more, get_or-set_same, get_or-set_other}
 use Rattle.daggy_base.specs.Graph.{Graph, Edge, HasEdge, out_list, edge_at, node_bound, edge_bound, edge_count, bound_of, bound_step}
 use Rattle.daggy_base.specs.Cursor.{first_of}
 use Rattle.daggy_base.specs.WellFormed.{IsWellFormed}
@@ -15,9 +12,11 @@ use Rattle.daggy_base.proofs.Lists.{mem_at, place_of}
 use Rattle.daggy_base.proofs.Slots.{count_cons}
 use Rattle.daggy_base.proofs.OutEdgesRead.{leaves, listed, below_bound, read_whole, read_part, has_edge}
 use Rattle.daggy_base.proofs.OutEdgesRead.{child_exists, next_cursor, lists_of, lists_few}
-use Rattle.daggy_search.specs.declared.adjacency.Arc.{Arc}
-use Rattle.daggy_search.specs.Rows.{Rows}
-use Rattle.daggy_reduction.specs.Blocks.{IsPlaced, AreArcsOf, AreArcs}
+use Rattle.daggy_search.specs.declared.arcs.Arc.{Arc}
+use Rattle.daggy_search.specs.declared.arcs.Segment.{Segment}
+use Rattle.daggy_reduction.specs.Blocks.{IsPlaced, IsIn, AreArcsOf, AreArcs, AreLaidOut, segment_at}
+use Rattle.daggy_reduction.proofs.SegmentArcs.{in_step, in_none, in_same, arcs_same}
+use Rattle.daggy_reduction.proofs.LaidOut.{at_set_same, at_set_other}
 use Rattle.daggy_reduction.proofs.BlockRows.{unique_front}
 use Rattle.daggy_reduction.proofs.QueueProgress.{lists_append}
 
@@ -80,48 +79,47 @@ module _ {N E : Type 0} (end : ℕ) (g : Graph N E) (w : IsWellFormed end g) (u 
       )
 
 -- What is listed: the graph and the number past all its edges, the node whose edges are gone through, the places of the
--- nodes, what was listed before, and how often edges were looked at till then.
+-- nodes, where its arcs begin, what was listed before, and how often edges were looked at till then.
 pub record Row (N E I : Type 0) : Type 0 where
   pub end : ℕ
   pub graph : Graph N E
   pub node : ℕ
   pub places : List ℕ
-  pub before : Rows I
+  pub begin : ℕ
+  pub before : List (Arc I)
   pub looks : ℕ
 
--- What is listed so far: the graph, the next edge, how often edges were looked at, and the lists.
+-- What is listed so far: the graph, the next edge, how often edges were looked at, the arcs, and where they stop.
 pub record Partial (N E I : Type 0) : Type 0 where
   pub graph : Graph N E
   pub edge : ℕ
   pub looks : ℕ
-  pub lists : Rows I
+  pub arcs : List (Arc I)
+  pub stop : ℕ
 
 -- the edge k is e, and its child stands at p
 abbrev pub StandsAt : (places : List ℕ) (e p k v : ℕ) → Type 0
 StandsAt places e p k v = (k ≡ e) × (get_or places v 0 ≡ p)
 
--- the last row has the edges that were passed
+-- the segment has the edges that were passed
 pub record Listing {N E I : Type 0} (number : I → ℕ) (r : Row N E I) (now : Partial N E I) : Type 0 where
   pub same : now.graph ≡ r.graph
   pub fits : node_bound r.graph ≤ length r.places
-  pub room : r.before.arcs + length (out_list r.graph r.node) ≤ r.before.arc_room
+  pub room : r.begin + length (out_list r.graph r.node) ≤ length r.before
   pub passed : ℕ
   pub cursor : now.edge ≡ first_of r.end (drop passed (out_list r.graph r.node))
   pub within : passed ≤ length (out_list r.graph r.node)
   pub counted : now.looks ≡ r.looks + passed
-  pub arcs : (e p : ℕ)
-      → ((a : Arc I) × Contains now.lists.rest a × (number a.edge ≡ e) × (a.place ≡ p))
-      ↔ Passed r.end r.graph r.node passed (StandsAt r.places e p)
-  pub rows_kept : now.lists.rows ≡ r.before.rows
-  pub arcs_are : now.lists.arcs ≡ r.before.arcs + passed
-  pub arc_room : r.before.arc_room ≤ now.lists.arc_room
-  pub row_room : now.lists.row_room ≡ r.before.row_room
+  pub stop_is : now.stop ≡ r.begin + passed
+  pub arcs : (e p : ℕ) → ((a : Arc I) × IsIn now.arcs (record { begin = r.begin; end = now.stop }) a
+      × (number a.edge ≡ e) × (a.place ≡ p)) ↔ Passed r.end r.graph r.node passed (StandsAt r.places e p)
+  pub front_kept : (j : ℕ) (a : Arc I) → j < r.begin → get_or now.arcs j a ≡ get_or r.before j a
+  pub length_kept : length now.arcs ≡ length r.before
 
 pub row_start : {N E I : Type 0} (number : I → ℕ) (r : Row N E I) {e : ℕ} → node_bound r.graph ≤ length r.places
-    → r.before.arcs + length (out_list r.graph r.node) ≤ r.before.arc_room → r.before.rest ≡ []
-    → e ≡ first_of r.end (out_list r.graph r.node)
-    → Listing number r record { graph = r.graph; edge = e; looks = r.looks; lists = r.before }
-row_start {N} {E} {I} number r fits room empty first =
+    → r.begin + length (out_list r.graph r.node) ≤ length r.before → e ≡ first_of r.end (out_list r.graph r.node)
+    → Listing number r record { graph = r.graph; edge = e; looks = r.looks; arcs = r.before; stop = r.begin }
+row_start number r fits room first =
     record {
       same = refl;
       fits = fits;
@@ -130,16 +128,13 @@ row_start {N} {E} {I} number r fits room empty first =
       cursor = first;
       within = omega arith;
       counted = omega arith;
+      stop_is = omega arith;
       arcs = λ e p. (
-        λ (a, has, e_is, p_is).
-            (let P : List (Arc I) → Type 0 = λ z. Contains z a in
-            let none = subst P empty has in absurd (omega (arith, none.1))),
+        λ (a, inside, e_is, p_is). absurd (in_none r.before r.begin a inside),
         λ q. absurd (omega (arith, q.2)),
       );
-      rows_kept = refl;
-      arcs_are = omega arith;
-      arc_room = omega arith;
-      row_room = refl;
+      front_kept = λ j a low. refl;
+      length_kept = refl;
     }
 
 module _ {N E I : Type 0} {number : I → ℕ} {r : Row N E I} (w : IsWellFormed r.end r.graph) {now : Partial N E I}
@@ -155,19 +150,23 @@ module _ {N E I : Type 0} {number : I → ℕ} {r : Row N E I} (w : IsWellFormed
   pub row_counted : now.edge ≡ r.end → s.passed ≡ length (out_list r.graph r.node)
   row_counted h = read_whole r.end r.graph w r.node s.passed now.edge s.cursor s.within h
 
-  pub row_has_room : now.edge ≢ r.end → now.lists.arcs < now.lists.arc_room
-  row_has_room here = omega (arith, row_less here, s.arcs_are, s.arc_room, s.room)
+  pub row_has_room : now.edge ≢ r.end → now.stop < length now.arcs
+  row_has_room here = omega (arith, row_less here, s.stop_is, s.length_kept, s.room)
 
-  pub row_whole : now.edge ≡ r.end → AreArcsOf number r.graph r.places r.node now.lists.rest
-  row_whole h e p =
-      let all =
-      passed_whole r.end r.graph w r.node s.passed now.edge s.cursor s.within h (StandsAt r.places e p) in (
-        λ a.
-            (let q = all.0 ((s.arcs e p).0 a) in
-            let at : edge_at r.graph e ≡ Some q.1 = ap (λ z. edge_at r.graph z) (sym q.4.0) ∙ q.2 in
-            record { edge = q.1; at = at; parent = q.3; place = q.4.1 }),
-        λ l. (s.arcs e p).1 (all.1 (e, l.edge, l.at, l.parent, (refl, l.place))),
-      )
+  whole : now.edge ≡ r.end → (e p : ℕ) → Passed r.end r.graph r.node s.passed (StandsAt r.places e p)
+      ↔ ((k : ℕ) × (x : Edge E) × (edge_at r.graph k ≡ Some x) × (x.parent ≡ r.node) × StandsAt r.places e p k x.child)
+  whole h e p = passed_whole r.end r.graph w r.node s.passed now.edge s.cursor s.within h (StandsAt r.places e p)
+
+  pub row_whole : now.edge ≡ r.end
+      → AreArcsOf number r.graph r.places 0 r.node now.arcs (record { begin = r.begin; end = now.stop })
+  row_whole h =
+      record {
+        real = λ a inside.
+            (let q = (whole h (number a.edge) a.place).0 ((s.arcs (number a.edge) a.place).0 (a, inside, refl, refl)) in
+            let at : edge_at r.graph (number a.edge) ≡ Some q.1 = ap (λ z. edge_at r.graph z) (sym q.4.0) ∙ q.2 in
+            record { edge = q.1; at = at; parent = q.3; place = q.4.1 });
+        all = λ e p l. inl ((s.arcs e p).1 ((whole h e p).1 (e, l.edge, l.at, l.parent, (refl, l.place))));
+      }
 
   module _ (here : now.edge ≢ r.end) {v next : ℕ} (look : IsLook r.end now.graph now.edge v next) where
     look₀ : IsLook r.end r.graph now.edge v next
@@ -183,11 +182,10 @@ module _ {N E I : Type 0} {number : I → ℕ} {r : Row N E I} (w : IsWellFormed
         )
 
     pub row_on : (a : Arc I) → number a.edge ≡ now.edge → a.place ≡ get_or r.places v 0 → {g' : Graph N E}
-        → g' ≡ now.graph → {looks' : ℕ} → looks' ≡ now.looks + 1 → (lists' : Rows I)
-        → lists'.rest ≡ now.lists.rest ++ a ∷ [] → lists'.rows ≡ now.lists.rows → lists'.arcs ≡ now.lists.arcs + 1
-        → now.lists.arc_room ≤ lists'.arc_room → lists'.row_room ≡ now.lists.row_room
-        → Listing number r record { graph = g'; edge = next; looks = looks'; lists = lists' }
-    row_on a e_is p_is same' counted' lists' rest' rows' arcs' arc_room' row_room' =
+        → g' ≡ now.graph → {looks' : ℕ} → looks' ≡ now.looks + 1 → (arcs' : List (Arc I))
+        → arcs' ≡ set now.arcs now.stop a
+        → Listing number r record { graph = g'; edge = next; looks = looks'; arcs = arcs'; stop = now.stop + 1 }
+    row_on a e_is p_is same' counted' arcs' arcs_are =
         record {
           same = same' ∙ s.same;
           fits = s.fits;
@@ -196,43 +194,46 @@ module _ {N E I : Type 0} {number : I → ℕ} {r : Row N E I} (w : IsWellFormed
           cursor = next_cursor r.end r.graph w r.node s.passed now.edge s.cursor here v next look₀;
           within = omega (arith, row_less here);
           counted = omega (arith, s.counted, counted');
+          stop_is = omega (arith, s.stop_is);
           arcs = λ e p.
               (let step =
               passed_step r.end r.graph w r.node s.passed now.edge s.cursor here v next look₀ (StandsAt r.places e p) in (
-                λ (b, has, b_e, b_p).
-                    (let P : List (Arc I) → Type 0 = λ z. Contains z b in
-                    step.1 (elim (Contains-append_cases now.lists.rest (a ∷ []) b (subst P rest' has)) [
-                      | inl old ↦ inl ((s.arcs e p).0 (b, old, b_e, b_p))
-                      | inr new ↦
-                          (let is : a ≡ b = only a b new in
-                          let num : number a.edge ≡ e = ap (λ (z : Arc I). number z.edge) is ∙ b_e in
-                          let plc : a.place ≡ p = ap (λ (z : Arc I). z.place) is ∙ b_p in
-                          inr (sym e_is ∙ num, sym p_is ∙ plc))
-                    ])),
-                λ q.
-                    (let P : Arc I → List (Arc I) → Type 0 = λ b z. Contains z b in
-                    elim (step.0 q) [
-                      | inl old ↦
-                          (let b = (s.arcs e p).1 old in
-                          (b.0, subst (P b.0) (sym rest') (Contains-append_left now.lists.rest (a ∷ []) b.0 b.1), b.2, b.3))
-                      | inr new ↦ (
-                        a,
-                        subst (P a) (sym rest')
-                            (Contains-append_right now.lists.rest (a ∷ []) a (0, omega arith, refl)),
-                        e_is ∙ new.0,
-                        p_is ∙ new.1,
-                      )
-                    ]),
+                λ (b, inside, b_e, b_p). step.1 (elim ((one_more b).0 inside) [
+                  | inl early ↦ inl ((s.arcs e p).0 (b, (same_front b).0 early, b_e, b_p))
+                  | inr same ↦
+                      (let num : number a.edge ≡ e = ap (λ (z : Arc I). number z.edge) (sym same) ∙ b_e in
+                      let plc : a.place ≡ p = ap (λ (z : Arc I). z.place) (sym same) ∙ b_p in
+                      inr (sym e_is ∙ num, sym p_is ∙ plc))
+                ]),
+                λ q. elim (step.0 q) [
+                  | inl early ↦
+                      (let (b, inside, b_e, b_p) = (s.arcs e p).1 early in
+                      (b, (one_more b).1 (inl ((same_front b).1 inside)), b_e, b_p))
+                  | inr new ↦ (a, (one_more a).1 (inr refl), e_is ∙ new.0, p_is ∙ new.1)
+                ],
               ));
-          rows_kept = rows' ∙ s.rows_kept;
-          arcs_are = omega (arith, arcs', s.arcs_are);
-          arc_room = omega (arith, arc_room', s.arc_room);
-          row_room = row_room' ∙ s.row_room;
+          front_kept = λ j b low. other j b (λ is. omega (arith, low, is, s.stop_is)) ∙ s.front_kept j b low;
+          length_kept = ap length arcs_are ∙ length-set now.arcs now.stop a ∙ s.length_kept;
         }
       where
-        only : (a b : Arc I) → Contains (a ∷ []) b → a ≡ b
-        only a b (zero, low, is) = is
-        only a b (suc k, low, is) = absurd (omega (arith, low))
+        other : (j : ℕ) (b : Arc I) → j ≢ now.stop → get_or arcs' j b ≡ get_or now.arcs j b
+        other j b apart = ap (λ z. get_or z j b) arcs_are ∙ get_or-set_other now.arcs now.stop j a b apart
+
+        there : a ≡ get_or arcs' now.stop a
+        there =
+            sym (ap (λ z. get_or z now.stop a) arcs_are ∙ get_or-set_same now.arcs now.stop a a (row_has_room here))
+
+        one_more : (b : Arc I) → IsIn arcs' (record { begin = r.begin; end = now.stop + 1 }) b
+            ↔ (IsIn arcs' (record { begin = r.begin; end = now.stop }) b ⊎ (b ≡ a))
+        one_more =
+            in_step arcs' r.begin now.stop a (omega (arith, s.stop_is))
+            (omega (arith, row_has_room here, ap length arcs_are, length-set now.arcs now.stop a)) there
+
+        same_front : (b : Arc I) → IsIn arcs' (record { begin = r.begin; end = now.stop }) b
+            ↔ IsIn now.arcs (record { begin = r.begin; end = now.stop }) b
+        same_front =
+            in_same now.arcs arcs' (record { begin = r.begin; end = now.stop })
+            (λ j b from till. other j b (λ is. omega (arith, till, is)))
 
 few_none : (A : Type 0) (count bound : ℕ) → count ≤ bound → count ≤ bound_step {A = A} None bound
 few_none A count zero few = few
@@ -252,55 +253,61 @@ few_slots (Some x ∷ xs) =
 pub few_edges : {N E : Type 0} (g : Graph N E) → edge_count g ≤ edge_bound g
 few_edges g = few_slots g.edges
 
--- What is listed: the graph and the number past all its edges, the nodes and their places, for how many edges and nodes
--- there is memory, and how often edges were looked at till then.
+-- What is listed: the graph and the number past all its edges, the nodes and their places, how many arcs and segments
+-- there are, and how often edges were looked at till then.
 pub record Side (N E : Type 0) : Type 0 where
   pub end : ℕ
   pub graph : Graph N E
   pub nodes : List ℕ
   pub places : List ℕ
-  pub arc_room : ℕ
-  pub row_room : ℕ
+  pub arcs : ℕ
+  pub segments : ℕ
   pub looks : ℕ
 
--- How far it is: the graph, how many nodes are done, how often edges were looked at, and the lists.
+-- How far it is: the graph, how many nodes are done, how often edges were looked at, the arcs, where they stop, and the
+-- segments.
 pub record Done (N E I : Type 0) : Type 0 where
   pub graph : Graph N E
   pub nodes : ℕ
   pub looks : ℕ
-  pub lists : Rows I
+  pub arcs : List (Arc I)
+  pub stop : ℕ
+  pub segments : List Segment
 
--- the nodes that are done have their rows
+-- the nodes that are done have their segments
 pub record Siding {N E I : Type 0} (number : I → ℕ) (t : Side N E) (now : Done N E I) : Type 0 where
   pub same : now.graph ≡ t.graph
-  pub count : length now.lists.rows ≡ now.nodes
-  pub rest : now.lists.rest ≡ []
-  pub arcs_are : now.lists.arcs ≡ length (lists_of t.graph (take now.nodes t.nodes))
-  pub counted : now.looks ≡ t.looks + now.lists.arcs
+  pub stop_is : now.stop ≡ length (lists_of t.graph (take now.nodes t.nodes))
+  pub counted : now.looks ≡ t.looks + now.stop
+  pub laid_out : AreLaidOut now.nodes now.stop now.segments
   pub listed : (k : ℕ) → k < now.nodes
-      → AreArcsOf number t.graph t.places (get_or t.nodes k 0) (get_or now.lists.rows k [])
-  pub arc_room : t.arc_room ≤ now.lists.arc_room
-  pub row_room : t.row_room ≤ now.lists.row_room
+      → AreArcsOf number t.graph t.places 0 (get_or t.nodes k 0) now.arcs (segment_at now.segments k)
+  pub arcs_kept : length now.arcs ≡ t.arcs
+  pub segments_kept : length now.segments ≡ t.segments
 
-pub side_start : {N E I : Type 0} (number : I → ℕ) (t : Side N E) (lists : Rows I) → lists.rows ≡ [] → lists.rest ≡ []
-    → lists.arcs ≡ 0 → lists.arc_room ≡ t.arc_room → lists.row_room ≡ t.row_room
-    → Siding number t record { graph = t.graph; nodes = 0; looks = t.looks; lists = lists }
-side_start number t lists rows rest arcs arc_room row_room =
+pub side_start : {N E I : Type 0} (number : I → ℕ) (t : Side N E) (arcs : List (Arc I)) (segments : List Segment)
+    → length arcs ≡ t.arcs → length segments ≡ t.segments → Siding number t
+    record { graph = t.graph; nodes = 0; looks = t.looks; arcs = arcs; stop = 0; segments = segments }
+side_start number t arcs segments arcs_are segments_are =
     record {
       same = refl;
-      count = ap length rows;
-      rest = rest;
-      arcs_are = arcs;
-      counted = omega (arith, arcs);
+      stop_is = refl;
+      counted = omega arith;
+      laid_out =
+          record {
+            ordered = λ k low. absurd (omega (arith, low));
+            within = λ k low. absurd (omega (arith, low));
+            apart = λ j k before low. absurd (omega (arith, low));
+          };
       listed = λ k low. absurd (omega (arith, low));
-      arc_room = omega (arith, arc_room);
-      row_room = omega (arith, row_room);
+      arcs_kept = arcs_are;
+      segments_kept = segments_are;
     }
 
 module _ {N E I : Type 0} {number : I → ℕ} {t : Side N E} (w : IsWellFormed t.end t.graph)
-    (pl : IsPlaced t.graph t.nodes t.places) (fits : edge_bound t.graph ≤ t.arc_room) {now : Done N E I}
+    (pl : IsPlaced t.graph t.nodes t.places) (fits : edge_bound t.graph ≤ t.arcs) {now : Done N E I}
     (s : Siding number t now) where
-  few : (k : ℕ) → k ≤ length t.nodes → length (lists_of t.graph (take k t.nodes)) ≤ t.arc_room
+  few : (k : ℕ) → k ≤ length t.nodes → length (lists_of t.graph (take k t.nodes)) ≤ t.arcs
   few k within =
       omega (
         arith,
@@ -314,7 +321,7 @@ module _ {N E I : Type 0} {number : I → ℕ} {t : Side N E} (w : IsWellFormed 
       omega (
         arith,
         s.counted,
-        s.arcs_are,
+        s.stop_is,
         lists_few t.end t.graph w (take now.nodes t.nodes) (unique_front pl now.nodes within),
       )
 
@@ -326,55 +333,118 @@ module _ {N E I : Type 0} {number : I → ℕ} {t : Side N E} (w : IsWellFormed 
         ∙ lists_append t.graph (take now.nodes t.nodes) (get_or t.nodes now.nodes 0)
         ∙ ap (λ z. length (lists_of t.graph (take now.nodes t.nodes)) + length (out_list t.graph z)) (sym u_is)
 
-    pub side_room : now.lists.arcs + length (out_list now.graph u) ≤ now.lists.arc_room
+    pub side_room : now.stop + length (out_list now.graph u) ≤ length now.arcs
     side_room =
         omega (
           arith,
           longer,
-          s.arcs_are,
-          s.arc_room,
+          s.stop_is,
+          s.arcs_kept,
           few (now.nodes + 1) (omega (arith, more)),
           ap (λ (z : Graph N E). length (out_list z u)) s.same,
         )
 
     pub side_on : {g' : Graph N E} → g' ≡ now.graph → {looks' : ℕ}
-        → looks' ≡ now.looks + length (out_list now.graph u) → (rest' : List (Arc I))
-        → AreArcsOf number now.graph t.places u rest' → (lists' : Rows I)
-        → lists'.rows ≡ now.lists.rows ++ rest' ∷ [] → lists'.rest ≡ []
-        → lists'.arcs ≡ now.lists.arcs + length (out_list now.graph u) → now.lists.arc_room ≤ lists'.arc_room
-        → now.lists.row_room ≤ lists'.row_room
-        → Siding number t record { graph = g'; nodes = now.nodes + 1; looks = looks'; lists = lists' }
-    side_on same' counted' rest' are lists' rows' none arcs' arc_room' row_room' =
+        → looks' ≡ now.looks + length (out_list now.graph u) → {arcs' : List (Arc I)} {stop' : ℕ}
+        → AreArcsOf number now.graph t.places 0 u arcs' (record { begin = now.stop; end = stop' })
+        → ((j : ℕ) (a : Arc I) → j < now.stop → get_or arcs' j a ≡ get_or now.arcs j a)
+        → stop' ≡ now.stop + length (out_list now.graph u) → length arcs' ≡ length now.arcs → {segments' : List Segment}
+        → segments' ≡ set now.segments now.nodes (record { begin = now.stop; end = stop' })
+        → now.nodes < length now.segments
+        → Siding number t
+        record { graph = g'; nodes = now.nodes + 1; looks = looks'; arcs = arcs'; stop = stop'; segments = segments' }
+    side_on same' counted' {arcs'} {stop'} are kept' stop_is' arcs_kept' {segments'} segments_are low =
         let out = ap (λ (z : Graph N E). length (out_list z u)) s.same in
         record {
           same = same' ∙ s.same;
-          count = ap length rows' ∙ length-append now.lists.rows (rest' ∷ []) ∙ ap (λ z. z + 1) s.count;
-          rest = none;
-          arcs_are = omega (arith, arcs', s.arcs_are, longer, out);
-          counted = omega (arith, counted', s.counted, arcs', out);
-          listed = λ k low.
-              (let R : List (List (Arc I)) → Type 0 = λ z.
-              AreArcsOf number t.graph t.places (get_or t.nodes k 0) (get_or z k []) in
-              subst R (sym rows') (elim (cases_lt k now.nodes) [
-                | inl old ↦
-                    (let Q : List (Arc I) → Type 0 = λ z. AreArcsOf number t.graph t.places (get_or t.nodes k 0) z in
-                    subst Q
-                    (sym (get_or-append now.lists.rows (rest' ∷ []) [] k (omega (arith, old, s.count))))
-                    (s.listed k old))
-                | inr new ↦
-                    (let is : k ≡ now.nodes = omega (arith, low, new) in
-                    let G : Graph N E → Type 0 = λ z. AreArcsOf number z t.places u rest' in
-                    let U : ℕ → Type 0 = λ z. AreArcsOf number t.graph t.places z rest' in
-                    let Q : List (Arc I) → Type 0 = λ z. AreArcsOf number t.graph t.places (get_or t.nodes k 0) z in
-                    let at : get_or (now.lists.rows ++ rest' ∷ []) k [] ≡ rest' =
-                    ap (λ z. get_or (now.lists.rows ++ rest' ∷ []) z []) (is ∙ sym s.count)
-                    ∙ get_or-append_seam now.lists.rows rest' [] [] in
-                    subst Q (sym at)
-                    (subst U (u_is ∙ ap (λ z. get_or t.nodes z 0) (sym is)) (subst G s.same are)))
-              ]));
-          arc_room = omega (arith, arc_room', s.arc_room);
-          row_room = omega (arith, row_room', s.row_room);
+          stop_is = omega (arith, stop_is', s.stop_is, longer, out);
+          counted = omega (arith, counted', s.counted, stop_is');
+          laid_out =
+              record {
+                ordered = λ k under. elim (cases_lt k now.nodes) [
+                  | inl old ↦ omega (arith, s.laid_out.ordered k old, begin_old k old, end_old k old)
+                  | inr new ↦ omega (arith, begin_new k (is k under new), end_new k (is k under new), stop_is')
+                ];
+                within = λ k under. elim (cases_lt k now.nodes) [
+                  | inl old ↦ omega (arith, s.laid_out.within k old, end_old k old, stop_is')
+                  | inr new ↦ omega (arith, end_new k (is k under new))
+                ];
+                apart = λ j k before under. elim (cases_lt k now.nodes) [
+                  | inl old ↦
+                      omega (
+                        arith,
+                        s.laid_out.apart j k before old,
+                        end_old j (omega (arith, before, old)),
+                        begin_old k old,
+                      )
+                  | inr new ↦
+                      omega (
+                        arith,
+                        s.laid_out.within j (omega (arith, before, under)),
+                        end_old j (omega (arith, before, under)),
+                        begin_new k (is k under new),
+                      )
+                ];
+              };
+          listed = λ k under. elim (cases_lt k now.nodes) [
+            | inl old ↦ arcs_same (same_arcs k old) (s.listed k old)
+            | inr new ↦
+                (let k_is : k ≡ now.nodes = is k under new in
+                let G : Graph N E → Type 0 = λ z.
+                AreArcsOf number z t.places 0 u arcs' (record { begin = now.stop; end = stop' }) in
+                let U : ℕ → Type 0 = λ z.
+                AreArcsOf number t.graph t.places 0 z arcs' (record { begin = now.stop; end = stop' }) in
+                let S : Segment → Type 0 = λ z. AreArcsOf number t.graph t.places 0 (get_or t.nodes k 0) arcs' z in
+                subst S (sym (at_new k k_is))
+                (subst U (u_is ∙ ap (λ z. get_or t.nodes z 0) (sym k_is)) (subst G s.same are)))
+          ];
+          arcs_kept = arcs_kept' ∙ s.arcs_kept;
+          segments_kept = ap length segments_are ∙ length-set now.segments now.nodes _ ∙ s.segments_kept;
         }
+      where
+        is : (k : ℕ) → k < now.nodes + 1 → now.nodes ≤ k → k ≡ now.nodes
+        is k under new = omega (arith, under, new)
 
-  pub side_whole : now.nodes ≡ length t.nodes → AreArcs number t.graph t.nodes t.places now.lists.rows
-  side_whole whole k low = s.listed k (omega (arith, low, whole))
+        at_new : (k : ℕ) → k ≡ now.nodes → segment_at segments' k ≡ record { begin = now.stop; end = stop' }
+        at_new k k_is =
+            ap (λ z. segment_at segments' z) k_is ∙ ap (λ z. segment_at z now.nodes) segments_are
+            ∙ at_set_same now.segments now.nodes _ low
+
+        at_old : (k : ℕ) → k < now.nodes → segment_at segments' k ≡ segment_at now.segments k
+        at_old k old =
+            ap (λ z. segment_at z k) segments_are
+            ∙ at_set_other now.segments now.nodes k _ (λ same. omega (arith, old, same))
+
+        begin_old : (k : ℕ) → k < now.nodes → (segment_at segments' k).begin ≡ (segment_at now.segments k).begin
+        begin_old k old = ap (λ (z : Segment). z.begin) (at_old k old)
+
+        end_old : (k : ℕ) → k < now.nodes → (segment_at segments' k).end ≡ (segment_at now.segments k).end
+        end_old k old = ap (λ (z : Segment). z.end) (at_old k old)
+
+        begin_new : (k : ℕ) → k ≡ now.nodes → (segment_at segments' k).begin ≡ now.stop
+        begin_new k k_is = ap (λ (z : Segment). z.begin) (at_new k k_is)
+
+        end_new : (k : ℕ) → k ≡ now.nodes → (segment_at segments' k).end ≡ stop'
+        end_new k k_is = ap (λ (z : Segment). z.end) (at_new k k_is)
+
+        same_arcs : (k : ℕ) → k < now.nodes → (a : Arc I)
+            → IsIn arcs' (segment_at segments' k) a ↔ IsIn now.arcs (segment_at now.segments k) a
+        same_arcs k old a =
+            let P : Segment → Type 0 = λ z. IsIn arcs' z a ↔ IsIn now.arcs (segment_at now.segments k) a in
+            subst P (sym (at_old k old))
+            (in_same now.arcs arcs' (segment_at now.segments k)
+            (λ j b from till. kept' j b (omega (arith, till, s.laid_out.within k old))) a)
+
+  pub side_whole : now.nodes ≡ length t.nodes → AreArcs number t.graph t.nodes t.places 0 now.arcs now.segments
+  side_whole whole =
+      let end : now.stop ≤ length now.arcs =
+      omega (arith, s.stop_is, few now.nodes (omega (arith, whole)), s.arcs_kept) in
+      record {
+        laid_out =
+            record {
+              ordered = λ k low. s.laid_out.ordered k (omega (arith, low, whole));
+              within = λ k low. omega (arith, s.laid_out.within k (omega (arith, low, whole)), end);
+              apart = λ j k before low. s.laid_out.apart j k before (omega (arith, low, whole));
+            };
+        each = λ k low. s.listed k (omega (arith, low, whole));
+      }

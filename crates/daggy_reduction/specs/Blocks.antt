@@ -1,10 +1,11 @@
 -- Nodes in an order with their places, and rows of bits over a block of them.
-use Rattle.std.specs.Prelude.{◌≡◌, ℕ, ◌-◌, ◌<◌, ◌≤◌, Bool, true, false, ◌&&◌, nat_lt, nat_le, Some, List, []}
+use Rattle.std.specs.Prelude.{◌≡◌, ℕ, ◌+◌, ◌-◌, ◌<◌, ◌≤◌, Bool, true, false, ◌&&◌, nat_lt, nat_le, Some, List, []}
 use Rattle.std.specs.Prelude.{length, slice_index, slice_index_or, Contains, ◌↔◌, ◌⊎◌}
 use Rattle.daggy_base.specs.Graph.{Graph, Edge, HasNode, edge_at}
 use Rattle.daggy_base.specs.Path.{AreJoined}
 use Rattle.daggy_base.specs.Reduction.{ReachesIndirectly}
-use Rattle.daggy_search.specs.declared.adjacency.Arc.{Arc}
+use Rattle.daggy_search.specs.declared.arcs.Arc.{Arc}
+use Rattle.daggy_search.specs.declared.arcs.Segment.{Segment}
 use Rattle.daggy_reduction.specs.Flags.{IsFlagged}
 
 -- existing nodes and all that they reach, each parent before its children, with the place of each
@@ -14,9 +15,9 @@ pub record IsPlaced {N E : Type 0} (g : Graph N E) (nodes places : List ℕ) : T
   pub closed : (u v : ℕ) → Contains nodes u → AreJoined g u v → Contains nodes v
   pub sorted : (u v : ℕ) → Contains nodes u → AreJoined g u v → slice_index places u < slice_index places v
 
--- exactly the bits are set for which it holds
-abbrev pub HasBits : (ℕ → Type 0) → List Bool → Type 0
-HasBits At row = (i : ℕ) → (slice_index_or row i false ≡ true) ↔ At i
+-- of the bits of a block, exactly those are set for which it holds
+abbrev pub HasBits : (low high : ℕ) → (ℕ → Type 0) → List Bool → Type 0
+HasBits low high At row = (i : ℕ) → low + i < high → (slice_index_or row i false ≡ true) ↔ At i
 
 -- e leaves u, and its child is at the place p
 pub record IsArcTo {N E : Type 0} (g : Graph N E) (places : List ℕ) (u e p : ℕ) : Type 0 where
@@ -25,27 +26,56 @@ pub record IsArcTo {N E : Type 0} (g : Graph N E) (places : List ℕ) (u e p : �
   pub parent : edge.parent ≡ u
   pub place : slice_index places edge.child ≡ p
 
--- exactly the edges that leave u, each with the place of its child
-abbrev pub AreArcsOf : {N E I : Type 0} → (number : I → ℕ) → Graph N E → (places : List ℕ) (u : ℕ) → List (Arc I) → Type 0
-AreArcsOf {N} {E} {I} number g places u arcs =
-    (e p : ℕ) → ((a : Arc I) × Contains arcs a × (number a.edge ≡ e) × (a.place ≡ p)) ↔ IsArcTo g places u e p
+-- an arc of a segment
+abbrev pub IsIn : {I : Type 0} → List (Arc I) → Segment → Arc I → Type 0
+IsIn arcs s a = (j : ℕ) × (s.begin ≤ j) × (j < s.end) × (slice_index_or arcs j a ≡ a)
 
--- a row of them for each node
-abbrev pub AreArcs : {N E I : Type 0}
-    → (number : I → ℕ) → Graph N E → (nodes places : List ℕ) → List (List (Arc I)) → Type 0
-AreArcs number g nodes places rows =
-    (k : ℕ) → k < length nodes → AreArcsOf number g places (slice_index nodes k) (slice_index_or rows k [])
+-- The edges that leave u, each with the place of its child. An edge to a place before low may be left out if a longer
+-- path leads there too.
+pub record AreArcsOf {N E I : Type 0} (number : I → ℕ) (g : Graph N E) (places : List ℕ) (low u : ℕ)
+    (arcs : List (Arc I)) (s : Segment) : Type 0 where
+  pub real : (a : Arc I) → IsIn arcs s a → IsArcTo g places u (number a.edge) a.place
+  pub all : (e p : ℕ) (l : IsArcTo g places u e p) → ((a : Arc I) × IsIn arcs s a × (number a.edge ≡ e) × (a.place ≡ p))
+      ⊎ ((p < low) × ReachesIndirectly g u l.edge.child)
+
+-- the segment of a node
+abbrev pub segment_at : List Segment → ℕ → Segment
+segment_at segments k = slice_index_or segments k (record { begin = 0; end = 0 })
+
+-- segments one after another
+pub record AreLaidOut (count total : ℕ) (segments : List Segment) : Type 0 where
+  pub ordered : (k : ℕ) → k < count → (segment_at segments k).begin ≤ (segment_at segments k).end
+  pub within : (k : ℕ) → k < count → (segment_at segments k).end ≤ total
+  pub apart : (j k : ℕ) → j < k → k < count → (segment_at segments j).end ≤ (segment_at segments k).begin
+
+-- a segment of them for each node
+pub record AreArcs {N E I : Type 0} (number : I → ℕ) (g : Graph N E) (nodes places : List ℕ) (low : ℕ)
+    (arcs : List (Arc I)) (segments : List Segment) : Type 0 where
+  pub laid_out : AreLaidOut (length nodes) (length arcs) segments
+  pub each : (k : ℕ) → k < length nodes
+      → AreArcsOf number g places low (slice_index nodes k) arcs (segment_at segments k)
 
 -- one of the arcs leads to a place of a kind
-abbrev pub HasArcTo : {I : Type 0} → List (Arc I) → (ℕ → Type 0) → Type 0
-HasArcTo {I} arcs At = (a : Arc I) × Contains arcs a × At a.place
+abbrev pub HasArcTo : {I : Type 0} → List (Arc I) → Segment → (ℕ → Type 0) → Type 0
+HasArcTo {I} arcs s At = (a : Arc I) × IsIn arcs s a × At a.place
+
+-- the row of a place p has the bit i
+abbrev pub HasBit : (rows : List (List Bool)) (p i : ℕ) → Type 0
+HasBit rows p i = slice_index_or (slice_index_or rows p []) i false ≡ true
+
+-- where the row of an arc's place has the place of another arc in a block, it has all that the other's row has
+abbrev pub ArePassedOn : {I : Type 0} → List (Arc I) → Segment → (low high : ℕ) (rows : List (List Bool)) → Type 0
+ArePassedOn {I} arcs s low high rows =
+    (a b : Arc I) → IsIn arcs s a → IsIn arcs s b → a.place < high → low ≤ b.place → b.place < high
+    → HasBit rows a.place (b.place - low)
+    → (i : ℕ) → low + i < high → HasBit rows b.place i → HasBit rows a.place i
 
 -- the edges of the arcs to marked places are flagged too, and nothing else
 abbrev pub MarksArcs : {I : Type 0}
-    → (end : ℕ) → (number : I → ℕ) → List (Arc I) → (mark : ℕ → Bool) (old new : List ℕ) → Type 0
-MarksArcs {I} end number arcs mark old new =
+    → (end : ℕ) → (number : I → ℕ) → List (Arc I) → Segment → (mark : ℕ → Bool) (old new : List ℕ) → Type 0
+MarksArcs {I} end number arcs s mark old new =
     (e : ℕ) → IsFlagged end new e ↔ (IsFlagged end old e
-    ⊎ ((a : Arc I) × Contains arcs a × (number a.edge ≡ e) × (mark a.place ≡ true)))
+    ⊎ ((a : Arc I) × IsIn arcs s a × (number a.edge ≡ e) × (mark a.place ≡ true)))
 
 -- whether a place is one of a block and is in the row
 abbrev pub is_in_row : (low high : ℕ) → List Bool → ℕ → Bool
@@ -59,3 +89,12 @@ pub record LeadsInto {N E : Type 0} (g : Graph N E) (nodes places : List ℕ) (l
   pub round : ReachesIndirectly g edge.parent edge.child
   pub from : low ≤ slice_index places edge.child
   pub till : slice_index places edge.child < high
+
+-- The arcs of a segment that are not marked, at its front, up to a new end. The other arcs are as before.
+pub record AreLeft {I : Type 0} (mark : ℕ → Bool) (s : Segment) (end : ℕ) (old new : List (Arc I)) : Type 0 where
+  pub from : s.begin ≤ end
+  pub till : end ≤ s.end
+  pub exact : (a : Arc I)
+      → IsIn new (record { begin = s.begin; end = end }) a ↔ (IsIn old s a × (mark a.place ≡ false))
+  pub others : (j : ℕ) (a : Arc I) → (j < s.begin) ⊎ (s.end ≤ j) → slice_index_or new j a ≡ slice_index_or old j a
+  pub length_kept : length new ≡ length old

@@ -3,6 +3,7 @@ pub mod Closure
 pub mod Flags
 pub mod SearchSpan
 pub mod Blocks
+pub mod CountedArcs
 pub mod AnyWeights
 pub mod KeptRoom
 pub mod Spans

@@ -1,15 +1,17 @@
 //! The transitive closure of a block of nodes, by rows of bits, and the redundant edges into it.
-ghost use Rattle.std.specs.Prelude.{◌≡◌, ℕ, ◌+◌, ◌*◌, ◌<◌, ◌≤◌, ◌↔◌, ◌⊎◌, [], true, false, map, length};
+ghost use Rattle.std.specs.Prelude.{◌≡◌, ℕ, ◌+◌, ◌-◌, ◌<◌, ◌≤◌, ◌↔◌, ◌⊎◌, [], true, false, map, length};
 ghost use Rattle.std.specs.Prelude.{take, slice_index_or, slice_set, Contains};
 ghost use Rattle.daggy_base.specs.Graph.{node_bound, edge_bound};
 ghost use Rattle.daggy_base.specs.WellFormed.{IsWellFormed};
 ghost use Rattle.daggy_reduction.specs.Flags.{IsFlagged};
-ghost use Rattle.daggy_reduction.specs.Blocks.{IsPlaced, HasBits, AreArcs, HasArcTo, MarksArcs};
-ghost use Rattle.daggy_reduction.specs.Blocks.{is_in_row, LeadsInto};
+ghost use Rattle.daggy_reduction.specs.Blocks.{IsPlaced, HasBits, HasBit, IsIn, AreArcs, HasArcTo};
+ghost use Rattle.daggy_reduction.specs.Blocks.{ArePassedOn, MarksArcs, AreLeft, is_in_row, LeadsInto};
 
+use crate::arcs::write_arc;
+use crate::flags::flag;
 use daggy_base::index::{EdgeIndex, IndexType};
 use daggy_base::source::EdgeSource;
-use daggy_search::{Adjacency, Arc, BLOCK, Row, Worklist};
+use daggy_search::{Arc, BLOCK, Row, Segment, Worklist};
 
 // The nodes of an order at the places from `low` on, before `high`.
 #[derive(Clone, Copy, Drop)]
@@ -48,102 +50,131 @@ fn block_at(low: usize, count: usize) -> Block
 fn reach_over(reached: &mut Reached, p: usize, block: Block, rows: &[Row])
     requires rows_fit { block.high ≤ length rows.now }
     requires few { block.high ≤ block.low + 512 }
-    ensures direct { (i : ℕ) → (slice_index_or reached.new.direct i false ≡ true)
-        ↔ ((slice_index_or reached.old.direct i false ≡ true)
-        ⊎ ((p < block.high) × (p ≡ block.low + i))) }
-    ensures indirect { (i : ℕ) → (slice_index_or reached.new.indirect i false ≡ true)
+    requires passed_on { block.low ≤ p → p < block.high
+        → slice_index_or reached.old.indirect (p - block.low) false ≡ true
+        → (i : ℕ) → block.low + i < block.high → HasBit rows.now p i
+        → slice_index_or reached.old.indirect i false ≡ true }
+    ensures direct { (i : ℕ) → block.low + i < block.high
+        → (slice_index_or reached.new.direct i false ≡ true)
+        ↔ ((slice_index_or reached.old.direct i false ≡ true) ⊎ (p ≡ block.low + i)) }
+    ensures indirect { (i : ℕ) → block.low + i < block.high
+        → (slice_index_or reached.new.indirect i false ≡ true)
         ↔ ((slice_index_or reached.old.indirect i false ≡ true)
-        ⊎ ((p < block.high) × (slice_index_or (slice_index_or rows.now p []) i false ≡ true))) }
+        ⊎ ((p < block.high) × HasBit rows.now p i)) }
 {
-    if p < block.high {
-        reached.indirect.union_with(&rows[p]);
-        if block.low <= p {
-            reached.direct.insert(p - block.low);
+    if p >= block.high {
+        return;
+    }
+    if block.low <= p {
+        reached.direct.insert(p - block.low);
+        // Another child reaches this one, and all that it reaches.
+        if reached.indirect.contains(p - block.low) {
+            return;
         }
     }
+    reached.indirect.union_with(&rows[p]);
 }
 
 // What a node reaches in a block, by the rows of its children.
-fn reach_from<Ix: IndexType>(arcs: &[Arc<Ix>], block: Block, rows: &[Row]) -> Reached
+fn reach_from<Ix: IndexType>(
+    arcs: &[Arc<Ix>],
+    segment: Segment,
+    block: Block,
+    rows: &[Row],
+) -> Reached
+    requires ordered { segment.begin ≤ segment.end }
+    requires inside { segment.end ≤ length arcs.now }
     requires rows_fit { block.high ≤ length rows.now }
     requires few { block.high ≤ block.low + 512 }
-    ensures direct { HasBits (λ i. HasArcTo arcs.now
-        (λ p. (p < block.high) × (p ≡ block.low + i))) result.direct }
-    ensures indirect { HasBits (λ i. HasArcTo arcs.now
-        (λ p. (p < block.high) × (slice_index_or (slice_index_or rows.now p []) i false ≡ true)))
+    requires passed_on { ArePassedOn arcs.now segment block.low block.high rows.now }
+    ensures direct { HasBits block.low block.high
+        (λ i. HasArcTo arcs.now segment (λ p. p ≡ block.low + i)) result.direct }
+    ensures indirect { HasBits block.low block.high
+        (λ i. HasArcTo arcs.now segment (λ p. (p < block.high) × HasBit rows.now p i))
         result.indirect }
 {
     let mut reached = Reached {
         direct: Row::new(),
         indirect: Row::new(),
     };
-    'arcs: for k in 0..arcs.len() {
+    'arcs: for k in segment.begin..segment.end {
         reach_over(&mut reached, arcs[k].place.index(), block, rows);
     }
     reached
 }
 
-// Flags an edge if its child, at the place `p`, is in the row of a block.
+// Whether a place is one of a block and in the row.
 #[inline]
-fn flag_if_in_row<Ix: IndexType>(
-    flags: &mut [EdgeIndex<Ix>],
-    e: EdgeIndex<Ix>,
-    p: usize,
+fn is_in(row: &Row, block: Block, p: usize) -> bool
+    requires { block.high ≤ block.low + 512 }
+    ensures { result ≡ is_in_row block.low block.high row.now p }
+{
+    block.low <= p && p < block.high && row.contains(p - block.low)
+}
+
+// Flags the edges of a node whose children are in the row of a block, and takes them out of the
+// node's segment. Returns where it ends now.
+fn flag_row<Ix: IndexType>(
+    arcs: &mut [Arc<Ix>],
+    segment: Segment,
     block: Block,
     row: &Row,
-)
-    requires edge { Ix.number e < length flags.old }
-    requires few { block.high ≤ block.low + 512 }
-    ensures flagged { is_in_row block.low block.high row.now p ≡ true
-        → map Ix.number flags.new
-        ≡ slice_set (map Ix.number flags.old) (Ix.number e) (Ix.number e) }
-    ensures passed { is_in_row block.low block.high row.now p ≡ false
-        → map Ix.number flags.new ≡ map Ix.number flags.old }
-    ensures kept { length flags.new ≡ length flags.old }
-{
-    if block.low <= p && p < block.high && row.contains(p - block.low) {
-        flags[e.index()] = e;
-    }
-}
-
-// Flags the edges of a node whose children are in the row of a block.
-fn flag_row<Ix: IndexType>(arcs: &[Arc<Ix>], block: Block, row: &Row, flags: &mut [EdgeIndex<Ix>])
-    requires real { (a : Arc Ix) → Contains arcs.now a → Ix.number a.edge < Ix.greatest }
+    flags: &mut [EdgeIndex<Ix>],
+) -> usize
+    requires ordered { segment.begin ≤ segment.end }
+    requires inside { segment.end ≤ length arcs.old }
+    requires real { (a : Arc Ix) → IsIn arcs.old segment a → Ix.number a.edge < Ix.greatest }
     requires flags_fit { (a : Arc Ix)
-        → Contains arcs.now a → Ix.number a.edge < length flags.old }
+        → IsIn arcs.old segment a → Ix.number a.edge < length flags.old }
     requires few { block.high ≤ block.low + 512 }
-    ensures flagged { MarksArcs Ix.greatest Ix.number arcs.now
+    ensures flagged { MarksArcs Ix.greatest Ix.number arcs.old segment
         (is_in_row block.low block.high row.now)
         (map Ix.number flags.old) (map Ix.number flags.new) }
-    ensures kept { length flags.new ≡ length flags.old }
+    ensures left { AreLeft (is_in_row block.low block.high row.now)
+        segment result arcs.old arcs.new }
+    ensures flags_kept { length flags.new ≡ length flags.old }
 {
-    'arcs: for k in 0..arcs.len() {
+    let mut end = segment.begin;
+    'arcs: for k in segment.begin..segment.end {
         let arc = arcs[k];
-        flag_if_in_row(flags, arc.edge, arc.place.index(), block, row);
+        if is_in(row, block, arc.place.index()) {
+            flag(flags, arc.edge);
+        } else {
+            write_arc(arcs, end, arc);
+            end += 1;
+        }
     }
+    end
 }
 
-// Flags the edges of a node into a block whose children are also reachable by a longer path.
+// Flags the edges of a node into a block whose children are also reachable by a longer path, and
+// takes them out of the node's segment. Returns where it ends now.
 fn flag_indirect<Ix: IndexType>(
-    arcs: &[Arc<Ix>],
+    arcs: &mut [Arc<Ix>],
+    segment: Segment,
     block: Block,
     reached: &Reached,
     flags: &mut [EdgeIndex<Ix>],
-)
-    requires real { (a : Arc Ix) → Contains arcs.now a → Ix.number a.edge < Ix.greatest }
+) -> usize
+    requires ordered { segment.begin ≤ segment.end }
+    requires inside { segment.end ≤ length arcs.old }
+    requires real { (a : Arc Ix) → IsIn arcs.old segment a → Ix.number a.edge < Ix.greatest }
     requires flags_fit { (a : Arc Ix)
-        → Contains arcs.now a → Ix.number a.edge < length flags.old }
+        → IsIn arcs.old segment a → Ix.number a.edge < length flags.old }
     requires few { block.high ≤ block.low + 512 }
-    requires direct { HasBits (λ i. HasArcTo arcs.now
-        (λ p. (p < block.high) × (p ≡ block.low + i))) reached.now.direct }
-    ensures flagged { MarksArcs Ix.greatest Ix.number arcs.now
+    requires direct { HasBits block.low block.high
+        (λ i. HasArcTo arcs.old segment (λ p. p ≡ block.low + i)) reached.now.direct }
+    ensures flagged { MarksArcs Ix.greatest Ix.number arcs.old segment
         (is_in_row block.low block.high reached.now.indirect)
         (map Ix.number flags.old) (map Ix.number flags.new) }
-    ensures kept { length flags.new ≡ length flags.old }
+    ensures left { AreLeft (is_in_row block.low block.high reached.now.indirect)
+        segment result arcs.old arcs.new }
+    ensures flags_kept { length flags.new ≡ length flags.old }
 {
-    if !reached.indirect.is_disjoint(&reached.direct) {
-        flag_row(arcs, block, &reached.indirect, flags);
+    if reached.indirect.is_disjoint(&reached.direct) {
+        return segment.end;
     }
+    flag_row(arcs, segment, block, &reached.indirect, flags)
 }
 
 // The row of all that a node reaches in a block.
@@ -159,15 +190,16 @@ fn union(reached: Reached) -> Row
 }
 
 // Flags the redundant edges into the block that begins at the place `low`, of the first `count`
-// nodes of a worklist, and returns where it ends. `source` is not read. It names the graph, for the
-// contract.
+// nodes of a worklist, takes them out of their segments, and returns where the block ends. `source` is
+// not read. It names the graph, for the contract.
 //
 // The nodes before the end of the block get their rows from the last one to the first: each row is
 // the union of the children's rows and of the children themselves.
 pub(crate) fn flag_block<Ix: IndexType, S: EdgeSource<Ix>>(
     source: &S,
     work: &Worklist<Ix>,
-    adjacency: &Adjacency<Ix>,
+    arcs: &mut [Arc<Ix>],
+    segments: &mut [Segment],
     low: usize,
     count: usize,
     rows: &mut [Row],
@@ -177,8 +209,8 @@ pub(crate) fn flag_block<Ix: IndexType, S: EdgeSource<Ix>>(
     requires placed { IsPlaced (S.graph source.now)
         (take count work.now.nodes) work.now.cursors }
     requires listed { AreArcs Ix.number (S.graph source.now)
-        (take count work.now.nodes) work.now.cursors adjacency.now.rows }
-    requires all { length adjacency.now.rows ≡ count }
+        (take count work.now.nodes) work.now.cursors low arcs.old segments.old }
+    requires all { count ≤ length segments.old }
     requires more { low < count }
     requires within { count ≤ length work.now.nodes }
     requires places_fit { node_bound (S.graph source.now) ≤ length work.now.cursors }
@@ -188,10 +220,13 @@ pub(crate) fn flag_block<Ix: IndexType, S: EdgeSource<Ix>>(
         ↔ (IsFlagged Ix.greatest (map Ix.number flags.old) e
         ⊎ LeadsInto (S.graph source.now)
         (take count work.now.nodes) work.now.cursors low result e) }
+    ensures listed { AreArcs Ix.number (S.graph source.now)
+        (take count work.now.nodes) work.now.cursors result arcs.new segments.new }
     ensures some { low < result }
     ensures last { result ≤ count }
     ensures full { result < count → result ≡ low + 512 }
     ensures rows_kept { length rows.new ≡ length rows.old }
+    ensures segments_kept { length segments.new ≡ length segments.old }
     ensures kept { length flags.new ≡ length flags.old }
 {
     let _ = source;
@@ -200,9 +235,13 @@ pub(crate) fn flag_block<Ix: IndexType, S: EdgeSource<Ix>>(
     let mut k = block.high;
     'nodes: while k > 0 {
         k -= 1;
-        let arcs = adjacency.row(k);
-        let reached = reach_from(arcs, block, rows);
-        flag_indirect(arcs, block, &reached, flags);
+        let segment = segments[k];
+        let reached = reach_from(arcs, segment, block, rows);
+        let end = flag_indirect(arcs, segment, block, &reached, flags);
+        segments[k] = Segment {
+            begin: segment.begin,
+            end,
+        };
         rows[k] = union(reached);
     }
     block.high

@@ -1,5 +1,6 @@
 //! Redundant edges, found by rows of bits for a block of nodes at a time.
 ghost use Rattle.std.specs.Prelude.{◌≡◌, ℕ, ◌+◌, ◌*◌, ◌≤◌, ◌↔◌, map, length, take, Contains};
+ghost use Rattle.std.specs.Prelude.{vec_len, vec_capacity};
 ghost use Rattle.daggy_base.specs.Graph.{node_bound, edge_bound, edge_count};
 ghost use Rattle.daggy_base.specs.Reduction.{IsRedundant};
 ghost use Rattle.daggy_base.specs.Ordered.{IsOrderOf};
@@ -8,31 +9,48 @@ ghost use Rattle.daggy_reduction.specs.Comparison.{IsAscending};
 ghost use Rattle.std.specs.Borrow.{sem};
 ghost use Rattle.daggy_reduction.specs.KeptRoom.{keeps_room};
 
-use crate::ahead::{Nothing, ReadAhead};
-use crate::arcs::list_arcs;
+use crate::arcs::{AlongLists, ListArcs};
 use crate::block::flag_block;
 use crate::flags::{collect_flags, unflag};
 use crate::redundant::front;
 use crate::roots::list_below;
 use daggy_base::index::{EdgeIndex, IndexType, NodeIndex};
+use daggy_base::link::Link;
 use daggy_base::source::EdgeSource;
 use daggy_order::order::Order;
-use daggy_search::{Adjacency, Row, Scratch, Worklist};
+use daggy_search::{Arc, Row, Scratch, Segment, Worklist};
+
+// Appends arcs until there are `len`, in memory that was reserved for them.
+fn grow_arcs<Ix: IndexType>(arcs: &mut Vec<Arc<Ix>>, len: usize)
+    requires { len ≤ vec_capacity arcs.old }
+    ensures more { len ≤ vec_len arcs.new }
+    ensures room { vec_capacity arcs.old ≤ vec_capacity arcs.new }
+{
+    let none = Arc {
+        place: Link::end(),
+        edge: EdgeIndex::end(),
+    };
+    'arcs: while arcs.len() < len {
+        // It fits what was reserved, so it cannot fail.
+        let _pushed = arcs.push(none);
+    }
+}
 
 // Flags the edges that are redundant below some roots, block by block.
-fn flag_blocks<Ix: IndexType, S: EdgeSource<Ix>, A: ReadAhead<Ix, S>>(
+fn flag_blocks<Ix: IndexType, S: EdgeSource<Ix>, L: ListArcs<Ix, S>>(
     source: &mut S,
     order: &Order<Ix>,
     roots: &[NodeIndex<Ix>],
     work: &mut Worklist<Ix>,
-    adjacency: &mut Adjacency<Ix>,
+    arcs: &mut [Arc<Ix>],
+    segments: &mut [Segment],
     rows: &mut [Row],
     flags: &mut [EdgeIndex<Ix>],
 )
     requires ordered { IsOrderOf (S.graph source.old) order.now }
     requires fits { node_bound (S.graph source.old) ≤ work.old.size }
-    requires arcs_fit { edge_bound (S.graph source.old) ≤ adjacency.old.arc_room }
-    requires arc_rows_fit { node_bound (S.graph source.old) ≤ adjacency.old.row_room }
+    requires arcs_fit { edge_bound (S.graph source.old) ≤ length arcs.old }
+    requires segments_fit { node_bound (S.graph source.old) ≤ length segments.old }
     requires rows_fit { node_bound (S.graph source.old) ≤ length rows.old }
     requires flags_fit { edge_bound (S.graph source.old) ≤ length flags.old }
     ensures same { S.graph source.new ≡ S.graph source.old }
@@ -42,24 +60,24 @@ fn flag_blocks<Ix: IndexType, S: EdgeSource<Ix>, A: ReadAhead<Ix, S>>(
     ensures counted { S.looks source.new
         ≤ S.looks source.old + 2 * edge_count (S.graph source.old) }
     ensures kept { work.new.size ≡ work.old.size }
-    ensures arc_room { adjacency.old.arc_room ≤ adjacency.new.arc_room }
-    ensures arc_row_room { adjacency.old.row_room ≤ adjacency.new.row_room }
+    ensures arcs_kept { length arcs.new ≡ length arcs.old }
+    ensures segments_kept { length segments.new ≡ length segments.old }
     ensures rows_kept { length rows.new ≡ length rows.old }
     ensures flags_kept { length flags.new ≡ length flags.old }
 {
     let _well_formed = source.node_bound();
     unflag(flags);
     let count = list_below(source, order, roots, work);
-    list_arcs::<Ix, S, A>(source, work, count, adjacency);
+    L::list_arcs(source, work, count, arcs, segments);
     let mut low = 0;
     'sweep: while low < count {
-        low = flag_block(source, work, adjacency, low, count, rows, flags);
+        low = flag_block(source, work, arcs, segments, low, count, rows, flags);
     }
 }
 
 // Writes the redundant edges below some roots to the front of `scratch.found`, and returns how many
-// there are. `A` tells what is read ahead.
-pub(crate) fn leave_redundant_by_blocks<Ix: IndexType, S: EdgeSource<Ix>, A: ReadAhead<Ix, S>>(
+// there are. `L` tells how edges are listed.
+pub(crate) fn leave_redundant_by_blocks<Ix: IndexType, S: EdgeSource<Ix>, L: ListArcs<Ix, S>>(
     source: &mut S,
     order: &Order<Ix>,
     roots: &[NodeIndex<Ix>],
@@ -83,11 +101,13 @@ pub(crate) fn leave_redundant_by_blocks<Ix: IndexType, S: EdgeSource<Ix>, A: Rea
 {
     let _well_formed = source.node_bound();
     let bound = source.edge_bound();
+    grow_arcs(&mut scratch.arcs, bound);
     let work = &mut scratch.work;
-    let adjacency = &mut scratch.adjacency;
+    let arcs = scratch.arcs.as_mut_slice();
+    let segments = scratch.segments.as_mut_slice();
     let rows = scratch.rows.as_mut_slice();
     let flags = scratch.found.as_mut_slice();
-    flag_blocks::<Ix, S, A>(source, order, roots, work, adjacency, rows, flags);
+    flag_blocks::<Ix, S, L>(source, order, roots, work, arcs, segments, rows, flags);
     collect_flags(flags, bound)
 }
 
@@ -117,6 +137,6 @@ pub fn redundant_edges_by_blocks<'s, Ix: IndexType, S: EdgeSource<Ix>>(
         ≤ S.looks source.old + 2 * edge_count (S.graph source.old) }
     ensures* rests { sem 𝓛 (keeps_room Ix.row Ix.IndexType scratch.entry) }
 {
-    let count = leave_redundant_by_blocks::<Ix, S, Nothing>(source, order, roots, scratch);
+    let count = leave_redundant_by_blocks::<Ix, S, AlongLists>(source, order, roots, scratch);
     front(scratch.found.as_slice(), count)
 }

@@ -6,7 +6,7 @@ ghost use Rattle.daggy_base.specs.Reduction.{IsRedundant};
 ghost use Rattle.daggy_reduction.specs.Comparison.{IsAscending};
 ghost use Rattle.daggy_reduction.specs.SearchSpan.{all_spanned};
 
-use crate::ahead::Lists;
+use crate::arcs::ByIndex;
 use crate::blocks::leave_redundant_by_blocks;
 use crate::bounded::leave_redundant_in;
 use crate::spans::spanned;
@@ -69,7 +69,7 @@ pub(crate) fn leave_redundant_either_way<Ix: IndexType, S: Store<Ix>>(
     let nodes = store.node_bound();
     if blocks_pay(store, order, &mut scratch.work) {
         if scratch.reserve_rows(nodes).is_ok() {
-            return leave_redundant_by_blocks::<Ix, S, Lists>(store, order, roots, scratch);
+            return leave_redundant_by_blocks::<Ix, S, ByIndex>(store, order, roots, scratch);
         }
     }
     leave_redundant_in(store, order, roots, scratch)

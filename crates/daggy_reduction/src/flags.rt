@@ -22,6 +22,17 @@ pub(crate) fn unflag<Ix: IndexType>(flags: &mut [EdgeIndex<Ix>])
     }
 }
 
+// Flags an edge.
+#[inline]
+pub(crate) fn flag<Ix: IndexType>(flags: &mut [EdgeIndex<Ix>], e: EdgeIndex<Ix>)
+    requires { Ix.number e < length flags.old }
+    ensures flagged { map Ix.number flags.new
+        ≡ slice_set (map Ix.number flags.old) (Ix.number e) (Ix.number e) }
+    ensures kept { length flags.new ≡ length flags.old }
+{
+    flags[e.index()] = e;
+}
+
 // Flags an edge if its child is marked.
 #[inline]
 fn flag_if_marked<Ix: IndexType>(
@@ -40,7 +51,7 @@ fn flag_if_marked<Ix: IndexType>(
     ensures kept { length flags.new ≡ length flags.old }
 {
     if work.is_marked(child.index()) {
-        flags[e.index()] = e;
+        flag(flags, e);
     }
 }
 

@@ -3,13 +3,13 @@
 #![tactic(auto)]
 
 pub mod affected;
-mod ahead;
 mod arcs;
 mod bfs;
 mod block;
 pub mod blocks;
 pub mod bounded;
 mod choice;
+mod counted_arcs;
 mod flags;
 pub mod joined_pairs;
 pub mod reduce;

@@ -5,5 +5,4 @@ pub mod FinishingOrder
 pub mod SearchState
 pub mod SortNodesState
 pub mod RowWords
-pub mod CutRows
 pub mod ReversedGraph

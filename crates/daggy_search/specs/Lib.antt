@@ -1,5 +1,4 @@
 pub mod Sorting
 pub mod Work
 pub mod Room
-pub mod Rows
 pub mod Reversed

@@ -1,7 +1,7 @@
 //! Searches over any graph whose edges can be read one at a time.
 #![tactic(auto)]
 
-mod adjacency;
+mod arcs;
 mod cycles;
 mod reach;
 mod reversed;
@@ -10,7 +10,7 @@ mod scratch;
 mod worklist;
 
 #[doc(hidden)]
-pub use adjacency::{Adjacency, Arc};
+pub use arcs::{Arc, Segment};
 pub use cycles::{is_acyclic, sort_nodes};
 pub use reach::reaches;
 pub use reversed::Reversed;

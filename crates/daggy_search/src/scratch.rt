@@ -1,7 +1,7 @@
 //! The memory of searches.
 ghost use Rattle.std.specs.Prelude.{◌≡◌, ℕ, ◌≤◌, ◌↔◌, IsTrue, IsOk, OnOk, [], vec_len};
 
-use crate::adjacency::Adjacency;
+use crate::arcs::{Arc, Segment};
 use crate::row::Row;
 use crate::worklist::Worklist;
 use daggy_base::index::{EdgeIndex, IndexType};
@@ -10,7 +10,7 @@ use std::alloc::{AllocError, Global};
 use std::marker::Model;
 
 /// The memory of searches: a worklist, a list for the edges that a search finds, and for a search by
-/// blocks of nodes a row of bits and the edges that leave it for each node.
+/// blocks of nodes a row of bits for each node and all edges side by side.
 ///
 /// A search does not allocate: it uses a scratch that was made large enough before. Memory for
 /// nodes is only reserved then, and initialised by the first search, so a graph that is never
@@ -25,14 +25,16 @@ pub struct Scratch<Ix: IndexType> {
     /// A row for each node, for a search by blocks.
     #[doc(hidden)]
     pub rows: Vec<Row>,
-    /// The edges that leave each node, for a search by blocks. There is memory for as many rows as
-    /// `rows` has, and for as many edges as `found` has.
+    /// Where the edges that leave each node stand among `arcs`: as many as `rows`, or more.
     #[doc(hidden)]
-    pub adjacency: Adjacency<Ix>,
+    pub segments: Vec<Segment>,
+    /// The edges that leave nodes, for a search by blocks. There is memory for as many as `found` has.
+    #[doc(hidden)]
+    pub arcs: Vec<Arc<Ix>>,
 }
 
 impl<Ix: IndexType> Model for Scratch<Ix> {
-    ghost use Rattle.std.specs.Prelude.{◌≤◌, vec_len};
+    ghost use Rattle.std.specs.Prelude.{◌≤◌, vec_len, vec_capacity};
     ghost use Rattle.daggy_search.specs.Room.{Room};
 
     ghost Value = { Room Ix };
@@ -46,7 +48,7 @@ impl<Ix: IndexType> Model for Scratch<Ix> {
         } };
 
     ghost invariant = { λ s.
-        (vec_len s.found ≤ s.adjacency.arc_room) × (vec_len s.rows ≤ s.adjacency.row_room) };
+        (vec_len s.found ≤ vec_capacity s.arcs) × (vec_len s.rows ≤ vec_len s.segments) };
 }
 
 // Appends empty rows until there are `len`.
@@ -71,7 +73,8 @@ impl<Ix: IndexType> Scratch<Ix> {
             work: Worklist::new(alloc),
             found: Vec::new(alloc),
             rows: Vec::new(alloc),
-            adjacency: Adjacency::new(alloc),
+            segments: Vec::new(alloc),
+            arcs: Vec::new(alloc),
         }
     }
 
@@ -102,13 +105,13 @@ impl<Ix: IndexType> Scratch<Ix> {
             self.work.grow(node_bound)?;
         }
         if self.found.len() < edge_bound {
-            self.adjacency.reserve_arcs(edge_bound)?;
+            reserve(&mut self.arcs, edge_bound)?;
             self.found.resize(edge_bound, EdgeIndex::end())?;
         }
         Ok(())
     }
 
-    /// Reserves a row for each node below a bound, which a search by blocks needs, 72 bytes each. It
+    /// Reserves a row for each node below a bound, which a search by blocks needs, 80 bytes each. It
     /// still fits what it fitted before, also after an error.
     #[inline]
     pub fn reserve_rows(&mut self, node_bound: usize) -> Result<(), AllocError>
@@ -118,7 +121,8 @@ impl<Ix: IndexType> Scratch<Ix> {
         ensures succeeds { node_bound ≤ self.old.rows → IsOk result }
     {
         if self.rows.len() < node_bound {
-            self.adjacency.reserve_rows(node_bound)?;
+            self.segments
+                .resize(node_bound, Segment { begin: 0, end: 0 })?;
             return grow_rows(&mut self.rows, node_bound);
         }
         Ok(())

@@ -4,8 +4,7 @@ use Rattle.daggy_reduction.proofs.ListedArcs.{row_low, row_on}
 use Rattle.daggy_reduction.proofs.arcs.list_row.Goals as goal
 
 pub edges-init : goal.edges-init
-edges-init g c =
-    row_start g.Ix.IndexType.number _ c.requires.places_fit c.requires.room c.requires.empty c.first-e.ensures
+edges-init g c = row_start g.Ix.IndexType.number _ c.requires.places_fit c.requires.room c.first-e.ensures
 
 pub look-v-requires : goal.look-v-requires
 look-v-requires g c = row_edge c.requires.well_formed c.edges.invariant (λ h. c.edges-test.true cc)
@@ -20,34 +19,34 @@ edges-smaller g c =
       c.look-v.ensures.counted,
     )
 
-pub cursor-requires : goal.cursor-requires
-cursor-requires g c =
+pub cursor-place-requires : goal.cursor-place-requires
+cursor-place-requires g c =
     omega (
       arith,
       row_low c.requires.well_formed c.edges.invariant (λ h. c.edges-test.true cc) c.look-v.ensures.gives,
       c.index-in-edges.ensures.value,
     )
 
-pub push-requires : goal.push-requires
-push-requires g c = row_has_room c.requires.well_formed c.edges.invariant (λ h. c.edges-test.true cc)
+pub write_arc-requires : goal.write_arc-requires
+write_arc-requires g c =
+    omega (arith, row_has_room c.requires.well_formed c.edges.invariant (λ h. c.edges-test.true cc))
 
 pub edges-preserved : goal.edges-preserved
 edges-preserved g c =
     let here : g.Ix.IndexType.number c.edges.e ≢ g.Ix.IndexType.greatest = λ h. c.edges-test.true cc in
     let places = c.args.work.now.cursors in
-    let at : c.cursor.result ≡ get_or places (g.Ix.IndexType.number c.look-v.result.0) 0 =
-    c.cursor.ensures 0 ∙ ap (λ z. get_or places z 0) c.index-in-edges.ensures.value in
+    let at : c.cursor-place.result ≡ get_or places (g.Ix.IndexType.number c.look-v.result.0) 0 =
+    c.cursor-place.ensures 0 ∙ ap (λ z. get_or places z 0) c.index-in-edges.ensures.value in
     row_on c.requires.well_formed c.edges.invariant here c.look-v.ensures.gives
-    (record { place = c.cursor.result; edge = c.edges.e }) (cc) at c.look-v.ensures.same c.look-v.ensures.counted
-    c.push.new.self c.push.ensures.rest c.push.ensures.rows c.push.ensures.arcs c.push.ensures.arc_room
-    c.push.ensures.row_room
+    (record { place = c.cursor-place.result; edge = c.edges.e }) (cc) at c.look-v.ensures.same c.look-v.ensures.counted _
+    c.write_arc.ensures
 
 pub returns-clause-listed : goal.returns-clause-listed
 returns-clause-listed g c = row_whole c.requires.well_formed c.edges.invariant (cc)
 
-pub returns-clause-arcs : goal.returns-clause-arcs
-returns-clause-arcs g c =
-    omega (arith, c.edges.invariant.arcs_are, row_counted c.requires.well_formed c.edges.invariant (cc))
+pub returns-clause-end : goal.returns-clause-end
+returns-clause-end g c =
+    omega (arith, c.edges.invariant.stop_is, row_counted c.requires.well_formed c.edges.invariant (cc))
 
 pub returns-clause-counted : goal.returns-clause-counted
 returns-clause-counted g c =

@@ -10,13 +10,15 @@ invariant-edges g l =
       graph = g.S.EdgeSource.graph l.fn.source;
       node = g.Ix.IndexType.number l.fn.u;
       places = l.fn.work.cursors;
-      before = l.fn.adjacency;
+      begin = l.fn.begin;
+      before = l.fn.arcs;
       looks = g.S.EdgeSource.looks l.fn.source;
     } record {
       graph = g.S.EdgeSource.graph l.source;
       edge = g.Ix.IndexType.number l.e;
       looks = g.S.EdgeSource.looks l.source;
-      lists = l.adjacency;
+      arcs = l.arcs;
+      stop = l.end;
     }
 
 abbrev pub decreases-edges : goal.decreases-edges

@@ -1,45 +1,57 @@
-use Rattle.std.proofs.Common.{map, refl, ◌∙◌, arith}
+use Rattle.std.proofs.Common.{◌≡◌, ◌<◌, map, length, sym, ap, ◌∙◌, arith}
 use Rattle.std.proofs.lemmas.List.{length-map}
 use Rattle.daggy_reduction.specs.Blocks.{is_in_row}
-use Rattle.daggy_reduction.proofs.PassedArcs.{flags_start, flags_on, flags_whole, passed_has}
+use Rattle.daggy_reduction.proofs.PassedArcs.{part_read, part_marked, part_left, part_done}
+use Rattle.daggy_reduction.proofs.block.flag_row.Goals.{then-is_in, else-is_in}
 use Rattle.daggy_reduction.proofs.block.flag_row.Goals as goal
 
-pub arcs-init : goal.arcs-init
-arcs-init g c = (
-  flags_start g.Ix.IndexType.greatest g.Ix.IndexType.number c.args.arcs.now
-      (is_in_row c.args.block.low c.args.block.high c.args.row.now) (map g.Ix.IndexType.number c.args.flags.now),
-  refl,
-)
-
-pub flag_if_in_row-requires-clause-edge : goal.flag_if_in_row-requires-clause-edge
-flag_if_in_row-requires-clause-edge g c =
+pub flag-requires : goal.flag-requires
+flag-requires g c =
+    let number = g.Ix.IndexType.number in
+    let p = c.arcs.invariant in
     omega (
       arith,
-      c.arcs.invariant.1,
       c.requires.flags_fit c.index-arcs-k.result
-          (passed_has c.args.arcs.now c.arcs.k c.index-arcs-k.result c.arcs-test.true c.index-arcs-k.is),
+          (part_read p c.index-arcs-k.result c.requires.inside c.arcs-test.true c.index-arcs-k.is),
+      p.flags_kept,
+      length-map c.arcs.flags number,
+      length-map c.args.flags.now number,
     )
+
+pub write_arc-requires : goal.write_arc-requires
+write_arc-requires g c =
+    let p = c.arcs.invariant in omega (arith, p.ends, p.arcs_kept, c.arcs-test.true, c.requires.inside)
 
 pub arcs-preserved : goal.arcs-preserved
 arcs-preserved g c =
     let number = g.Ix.IndexType.number in
-    let a = c.index-arcs-k.result in
-    let has = passed_has c.args.arcs.now c.arcs.k a c.arcs-test.true c.index-arcs-k.is in
-    let mark = is_in_row c.args.block.low c.args.block.high c.args.row.now in (
-      flags_on g.Ix.IndexType.greatest number c.args.arcs.now mark c.arcs.k a c.arcs-test.true c.index-arcs-k.is
-          c.index.result c.index.ensures.value (map number c.args.flags.now) (map number c.arcs.flags) (map number c.flag_if_in_row.new.flags)
-          (omega (arith, c.arcs.invariant.1, c.requires.flags_fit a has, length-map c.arcs.flags number))
-          (c.requires.real a has) c.arcs.invariant.0 c.flag_if_in_row.ensures.flagged
-          c.flag_if_in_row.ensures.passed,
-      c.flag_if_in_row.ensures.kept ∙ c.arcs.invariant.1,
-    )
+    let p = c.arcs.invariant in
+    let x = c.index-arcs-k.result in
+    let here = part_read p x c.requires.inside c.arcs-test.true c.index-arcs-k.is in
+    let mark = is_in_row c.args.block.low c.args.block.high c.args.row.now in
+    let told : mark x.place ≡ c.is_in.result = ap mark (sym c.index.ensures.value) ∙ sym c.is_in.ensures in
+    elim c.if-is_in.branch [
+      | then-is_in w ↦
+          (let within : number x.edge < length (map number c.arcs.flags) =
+          omega (
+            arith,
+            c.requires.flags_fit x here,
+            p.flags_kept,
+            length-map c.args.flags.now number,
+          ) in
+          rw (w.arcs-is, w.end-is)
+          (part_marked p x c.requires.inside c.arcs-test.true c.index-arcs-k.is (told ∙ w.if-is_in.true) within
+          (c.requires.real x here) (ap (map number) w.flags-is ∙ w.flag.ensures.flagged)))
+      | else-is_in w ↦
+          rw (w.flags-is, w.end-is)
+          (part_left p x c.requires.inside c.arcs-test.true c.index-arcs-k.is (told ∙ w.if-is_in.false)
+          (w.arcs-is ∙ w.write_arc.ensures))
+    ]
 
 pub returns-clause-flagged : goal.returns-clause-flagged
 returns-clause-flagged g c =
-    let number = g.Ix.IndexType.number in
-    flags_whole g.Ix.IndexType.greatest number c.args.arcs.now
-    (is_in_row c.args.block.low c.args.block.high c.args.row.now) c.arcs.k (omega (arith, c.arcs-test.false))
-    (map number c.args.flags.now) (map number c.arcs.flags) c.arcs.invariant.0
+    (part_done c.arcs.invariant (omega (arith, c.arcs-test.false, c.arcs.auto.k-end, c.requires.ordered))).0
 
-pub returns-clause-kept : goal.returns-clause-kept
-returns-clause-kept g c = c.arcs.invariant.1
+pub returns-clause-left : goal.returns-clause-left
+returns-clause-left g c =
+    (part_done c.arcs.invariant (omega (arith, c.arcs-test.false, c.arcs.auto.k-end, c.requires.ordered))).1

@@ -21,10 +21,11 @@ pub sweep-init : goal.sweep-init
 sweep-init g c =
     let number = g.Ix.IndexType.number in
     blocks_start _ (map number c.unflag.new.flags)
-    (length-map c.unflag.new.flags number ∙ c.unflag.ensures.kept) c.unflag.ensures.none
+    (length-map c.unflag.new.flags number ∙ c.unflag.ensures.kept) c.unflag.ensures.none c.list_arcs.new.arcs
+    c.list_arcs.new.segments c.list_arcs.ensures.segments_kept (rw c.list_arcs.ensures.same c.list_arcs.ensures.listed)
 
 pub flag_block-low-requires-clause-listed : goal.flag_block-low-requires-clause-listed
-flag_block-low-requires-clause-listed g c = rw c.list_arcs.ensures.same c.list_arcs.ensures.listed
+flag_block-low-requires-clause-listed g c = c.sweep.invariant.listed
 
 pub flag_block-low-requires-clause-rows_fit : goal.flag_block-low-requires-clause-rows_fit
 flag_block-low-requires-clause-rows_fit g c =
@@ -39,6 +40,7 @@ sweep-preserved g c =
     length-map c.flag_block-low.new.flags number ∙ made.kept ∙ sym (length-map c.sweep.flags number) in
     blocks_on c.sweep.invariant c.flag_block-low.result (omega (arith, made.last, sized)) made.some
     (length c.flag_block-low.new.rows) (map number c.flag_block-low.new.flags) made.rows_kept kept made.flagged
+    c.flag_block-low.new.arcs c.flag_block-low.new.segments made.segments_kept made.listed
 
 pub returns-clause-flagged : goal.returns-clause-flagged
 returns-clause-flagged g c =

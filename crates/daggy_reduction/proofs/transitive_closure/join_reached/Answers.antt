@@ -1,4 +1,4 @@
-use Rattle.std.proofs.Common.{◌≡◌, ◌≢◌, ◌∙◌, arith}
+use Rattle.std.proofs.Common.{◌≢◌, ◌∙◌, arith}
 use Rattle.daggy_reduction.proofs.Closing.{joining_start, joining_edge, joining_less, joining_counted, joining_whole}
 use Rattle.daggy_reduction.proofs.Closing.{joining_child, joining_on}
 use Rattle.daggy_reduction.proofs.transitive_closure.join_reached.Goals as goal

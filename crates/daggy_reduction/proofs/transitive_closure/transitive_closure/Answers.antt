@@ -1,4 +1,4 @@
-use Rattle.std.proofs.Common.{◌≡◌, ◌∙◌, arith}
+use Rattle.std.proofs.Common.{◌∙◌}
 use Rattle.daggy_reduction.proofs.Closing.{closing_start, closing_well, closing_apart, closing_counted, closing_whole}
 use Rattle.daggy_reduction.proofs.Closing.{closing_low, closing_on}
 use Rattle.daggy_reduction.proofs.transitive_closure.transitive_closure.Goals as goal

@@ -1,5 +1,6 @@
-use Rattle.std.proofs.Common.{◌≡◌, ◌∙◌, sym, false}
+use Rattle.std.proofs.Common.{◌≡◌, ◌↔◌, ◌∙◌, Bool, Option, None, Some, is_some, not, refl, sym, true, false}
 use Rattle.std.proofs.lemmas.Bool.{false≢true}
+use Rattle.std.proofs.lemmas.Option.{none-some}
 use Rattle.daggy_order.proofs.BoundedSearch.{reached_exists}
 use Rattle.daggy_order.proofs.OrderEdgeResult.{not_reached}
 use Rattle.daggy_order.proofs.Tails.{tailed_flushed}
@@ -28,3 +29,15 @@ pub invariant_of-order : goal.invariant_of-order
 invariant_of-order g c =
     let flushed = c.flush-order-inside.ensures in
     tailed_flushed c.order.invariant flushed.nodes flushed.from flushed.count flushed.index_bound
+
+none_told : {A : Type 0} (o : Option A) (b : Bool) → is_some o ≡ not b → (b ≡ true) ↔ (o ≡ None)
+none_told None true told = (λ h. refl, λ h. refl)
+none_told None false told = absurd (false≢true told)
+none_told (Some x) true told = absurd (false≢true (sym told))
+none_told (Some x) false told = (λ h. absurd (false≢true h), λ h. absurd (none-some x (sym h)))
+
+pub returns-clause-decided : goal.returns-clause-decided
+returns-clause-decided g c =
+    let told = none_told c.reaches_before.result c.is_none.result c.is_none.ensures in
+    let decided = c.reaches_before.ensures.decided in
+    (λ h. decided.0 (told.0 h), λ r. told.1 (decided.1 r))

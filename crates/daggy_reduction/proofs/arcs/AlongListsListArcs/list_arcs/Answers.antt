@@ -1,9 +1,9 @@
-use Rattle.std.proofs.Common.{◌≡◌, ◌<◌, ◌++◌, ◌∷◌, [], length, get_or, take, sym, ap, ◌∙◌, arith}
+use Rattle.std.proofs.Common.{◌≡◌, ◌<◌, length, get_or, take, refl, sym, ◌∙◌, arith}
 use Rattle.std.proofs.lemmas.List.{length-take-le, get_or-take}
 use Rattle.daggy_reduction.proofs.ListedArcs.{side_start, side_room, side_on, side_whole, side_counted}
-use Rattle.daggy_reduction.proofs.arcs.list_arcs.Given.{Over}
-use Rattle.daggy_reduction.proofs.arcs.list_arcs.Goals.{After-node-in-nodes}
-use Rattle.daggy_reduction.proofs.arcs.list_arcs.Goals as goal
+use Rattle.daggy_reduction.proofs.arcs.AlongListsListArcs.list_arcs.Given.{Over}
+use Rattle.daggy_reduction.proofs.arcs.AlongListsListArcs.list_arcs.Goals.{After-node-in-nodes}
+use Rattle.daggy_reduction.proofs.arcs.AlongListsListArcs.list_arcs.Goals as goal
 
 -- the node is that of its place
 node_is : (g : Over) (c : After-node-in-nodes g)
@@ -18,25 +18,21 @@ more g c =
 
 pub nodes-init : goal.nodes-init
 nodes-init g c =
-    side_start g.Ix.IndexType.number _ c.clear.new.self c.clear.ensures.rows c.clear.ensures.rest
-    c.clear.ensures.arcs c.clear.ensures.arc_room c.clear.ensures.row_room
+    side_start g.Ix.IndexType.number _ c.args.arcs.now c.args.segments.now refl refl
 
-pub list_row-requires-clause-room : goal.list_row-requires-clause-room
-list_row-requires-clause-room g c =
-    let b = (goal.at.list_row-requires-clause-room g c).After-node-in-nodes in
+pub list_row-end-requires-clause-room : goal.list_row-end-requires-clause-room
+list_row-end-requires-clause-room g c =
+    let b = (goal.at.list_row-end-requires-clause-room g c).After-node-in-nodes in
     side_room c.requires.well_formed c.requires.placed c.requires.arcs_fit c.nodes.invariant (more g b)
     (g.Ix.IndexType.number c.node-in-nodes.result) (node_is g b)
 
 pub nodes-preserved : goal.nodes-preserved
 nodes-preserved g c =
     let b = (goal.at.nodes-preserved g c).After-node-in-nodes in
-    let row = c.list_row.ensures in
-    let row_end = c.close_row.ensures in
+    let row = c.list_row-end.ensures in
     side_on c.requires.well_formed c.requires.placed c.requires.arcs_fit c.nodes.invariant (more g b)
-    (g.Ix.IndexType.number c.node-in-nodes.result) (node_is g b) row.same row.counted c.list_row.new.adjacency.rest
-    row.listed c.close_row.new.self (row_end.rows ∙ ap (λ z. z ++ c.list_row.new.adjacency.rest ∷ []) row.rows)
-    row_end.rest (row_end.arcs ∙ row.arcs) (omega (arith, row.arc_room, row_end.arc_room))
-    (omega (arith, row.row_room, row_end.row_room))
+    (g.Ix.IndexType.number c.node-in-nodes.result) (node_is g b) row.same row.counted row.listed row.before row.end
+    row.arcs_kept refl (omega (arith, c.nodes-test.true, c.requires.segments_fit, c.nodes.invariant.segments_kept))
 
 pub returns-clause-listed : goal.returns-clause-listed
 returns-clause-listed g c =

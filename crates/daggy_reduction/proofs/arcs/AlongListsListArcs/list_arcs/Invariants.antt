@@ -1,6 +1,6 @@
-use Rattle.std.proofs.Common.{take}
+use Rattle.std.proofs.Common.{length, take}
 use Rattle.daggy_reduction.proofs.ListedArcs.{Siding}
-use Rattle.daggy_reduction.proofs.arcs.list_arcs.Given as goal
+use Rattle.daggy_reduction.proofs.arcs.AlongListsListArcs.list_arcs.Given as goal
 
 abbrev pub invariant-nodes : goal.invariant-nodes
 invariant-nodes g l =
@@ -9,12 +9,14 @@ invariant-nodes g l =
       graph = g.S.EdgeSource.graph l.fn.source;
       nodes = take l.fn.count l.fn.work.nodes;
       places = l.fn.work.cursors;
-      arc_room = l.fn.adjacency.arc_room;
-      row_room = l.fn.adjacency.row_room;
+      arcs = length l.fn.arcs;
+      segments = length l.fn.segments;
       looks = g.S.EdgeSource.looks l.fn.source;
     } record {
       graph = g.S.EdgeSource.graph l.source;
       nodes = l.k;
       looks = g.S.EdgeSource.looks l.source;
-      lists = l.adjacency;
+      arcs = l.arcs;
+      stop = l.end;
+      segments = l.segments;
     }
