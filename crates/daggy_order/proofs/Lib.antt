@@ -1,6 +1,7 @@
 pub mod Chains
 pub mod Items
 pub mod LinkedNodes
+pub mod NodeItems
 pub mod AscendingLabels
 pub mod Labelled
 pub mod MovedNodes
