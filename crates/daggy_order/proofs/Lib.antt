@@ -7,6 +7,7 @@ pub mod Labelled
 pub mod MovedNodes
 pub mod OrderSteps
 pub mod Tails
+pub mod RunsWritten
 pub mod NodesSorted
 pub mod SortedByLabel
 pub mod OrderEdgeResult

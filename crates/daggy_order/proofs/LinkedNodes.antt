@@ -107,7 +107,7 @@ pub record Keeps (end : ℕ) (links : Linking) (count : ℕ) (nodes : List ℕ) 
   pub same : nodes_from end links.next links.first count ≡ nodes
 
 -- a chain of distinct nodes is what links keep
-are_links : {end : ℕ} {next previous : List ℕ} {first last : ℕ} {xs : List ℕ}
+pub are_links : {end : ℕ} {next previous : List ℕ} {first last : ℕ} {xs : List ℕ}
     → IsLinkChain (neighbor end first next) (neighbor end last previous) end xs end → Unique (end ∷ xs)
     → ((n : ℕ) → Mem n xs → n < length previous) → AreLinksOf end next previous first last xs
 are_links {end} {next} {previous} {first} {last} {xs} chain once within = record {
@@ -117,7 +117,7 @@ are_links {end} {next} {previous} {first} {last} {xs} chain once within = record
 }
 
 -- a walk along links gives the nodes that they lead over
-keeps : {end : ℕ} (links : Linking) {xs : List ℕ}
+pub keeps : {end : ℕ} (links : Linking) {xs : List ℕ}
     → AreLinksOf end links.next links.previous links.first links.last xs → (count : ℕ) → count ≡ length xs
     → Keeps end links count xs
 keeps {end} links {xs} s count is =
@@ -349,7 +349,7 @@ module _ {end : ℕ} {next previous : List ℕ} {first last : ℕ} {xs : List �
           let not_in = subst B at (λ m. can.fresh (inr m)) in (
             λ m. elim (from_put end m) [ inl e ↦ can.fresh (inl (sym e)) | inr b ↦ once.0 b ],
             subst C (append_assoc us (p ∷ []) (n ∷ vs))
-            (unique_mid (us ++ p ∷ []) vs n (subst C both u.1) (subst B both not_in)),
+                (unique_mid (us ++ p ∷ []) vs n (subst C both u.1) (subst B both not_in)),
           )
 
       count_put : count ≡ length (us ++ p ∷ (n ∷ vs))
