@@ -11,8 +11,6 @@ pub mod ExtendAllLoop
 pub mod FilledMatrix
 pub mod PackedSort
 pub mod StandingAfterEdge
-pub mod WalkedEdges
-pub mod ListCursors
 pub mod ParentsAsked
 pub mod KeptBefore
 pub mod ParentsInTurn

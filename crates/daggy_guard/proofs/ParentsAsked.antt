@@ -12,7 +12,7 @@ use Rattle.daggy_base.proofs.Lists.{Mem, mem_at, place_of, contains_mem, mem_con
 use Rattle.daggy_base.proofs.Lists.{first_past, after_at}
 use Rattle.daggy_base.proofs.OutEdgesRead.{edge_below}
 use Rattle.daggy_search.proofs.SearchProgress.{reaches_stays}
-use Rattle.daggy_guard.proofs.WalkedEdges.{one_step}
+use Rattle.daggy_walk.proofs.WalkedEdges.{one_step}
 use Rattle.daggy_base.specs.Ordered.{IsOrderOf, place}
 
 -- the parents before the cursor all stand before b

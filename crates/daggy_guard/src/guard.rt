@@ -19,14 +19,13 @@ ghost use Rattle.daggy_base.specs.declared.error.EdgeError.TheVariants.{WouldCyc
 ghost use Rattle.daggy_base.specs.declared.error.EdgeError.TheVariants.{Memory as EdgeMemory};
 ghost use Rattle.daggy_base.specs.declared.error.ChildError.TheVariants.{Memory as ChildMemory};
 
-use crate::prefetch::touch_neighbors;
-use crate::walk::step;
 use daggy_base::error::{ChildError, EdgeError, NodeError, WouldCycle};
 use daggy_base::index::{Direction, EdgeIndex, IndexType, NodeIndex};
 use daggy_base::store::Store;
 use daggy_order::order::{Order, order_edge};
 use daggy_search::Scratch;
-use daggy_walk::prefetch::PREFETCH_FROM;
+use daggy_walk::prefetch::{PREFETCH_FROM, touch_neighbors};
+use daggy_walk::walk::step;
 use std::alloc::{AllocError, Global};
 use std::marker::{Model, PhantomData};
 

@@ -12,6 +12,3 @@ pub mod matrix;
 pub mod packed;
 pub mod parents;
 pub mod paths;
-#[doc(hidden)]
-pub mod prefetch;
-pub mod walk;

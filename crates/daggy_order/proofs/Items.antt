@@ -56,19 +56,29 @@ pub as_many : {I : Type 0} (old new : List (Item I)) → labels_of new ≡ label
 as_many old new is =
     sym (labels_many new) ∙ (ap (λ (z : List ℕ). length z) is ∙ labels_many old)
 
--- where items are the same but for vacant ones at the end, so are links and labels
+-- where an item is the same, or vacant and was not there, so are its links and its label
+module _ {I : Type 0} (end : ℕ) (old new : List (Item I)) (k : ℕ)
+    (same : get_or new k (vacant end) ≡ get_or old k (vacant end)) where
+  field_kept : (f : Item I → ℕ) → get_or (map f new) k (f (vacant end)) ≡ get_or (map f old) k (f (vacant end))
+  field_kept f = get_or-mapped f new k (vacant end) ∙ (ap f same ∙ sym (get_or-mapped f old k (vacant end)))
+
+  pub next_kept : get_or (nexts_of new) k end ≡ get_or (nexts_of old) k end
+  next_kept = field_kept (λ x. x.next)
+
+  pub previous_kept : get_or (previous_of new) k end ≡ get_or (previous_of old) k end
+  previous_kept = field_kept (λ x. x.previous)
+
+  pub label_kept : get_or (labels_of new) k 0 ≡ get_or (labels_of old) k 0
+  label_kept = field_kept (λ x. x.label)
+
+-- the same of all items
 module _ {I : Type 0} (end : ℕ) (old new : List (Item I))
     (same : (k : ℕ) → get_or new k (vacant end) ≡ get_or old k (vacant end)) where
-  same_field : (f : Item I → ℕ) (k : ℕ)
-      → get_or (map f new) k (f (vacant end)) ≡ get_or (map f old) k (f (vacant end))
-  same_field f k =
-      get_or-mapped f new k (vacant end) ∙ (ap f (same k) ∙ sym (get_or-mapped f old k (vacant end)))
-
   pub same_nexts : (k : ℕ) → get_or (nexts_of new) k end ≡ get_or (nexts_of old) k end
-  same_nexts k = same_field (λ x. x.next) k
+  same_nexts k = next_kept end old new k (same k)
 
   pub same_previous : (k : ℕ) → get_or (previous_of new) k end ≡ get_or (previous_of old) k end
-  same_previous k = same_field (λ x. x.previous) k
+  same_previous k = previous_kept end old new k (same k)
 
   pub same_labels : (k : ℕ) → get_or (labels_of new) k 0 ≡ get_or (labels_of old) k 0
-  same_labels k = same_field (λ x. x.label) k
+  same_labels k = label_kept end old new k (same k)

@@ -1,11 +1,13 @@
 pub mod Chains
 pub mod Items
 pub mod LinkedNodes
+pub mod NodeItems
 pub mod AscendingLabels
 pub mod Labelled
 pub mod MovedNodes
 pub mod OrderSteps
 pub mod Tails
+pub mod RunsWritten
 pub mod NodesSorted
 pub mod SortedByLabel
 pub mod OrderEdgeResult

@@ -7,8 +7,7 @@ use Rattle.std.proofs.lemmas.List.Elements.{filter-append}
 use Rattle.daggy_base.specs.Cursor.{first_of}
 use Rattle.daggy_base.specs.Removal.{without}
 use Rattle.daggy_base.proofs.Lists.{Mem, Unique, mem_left, mem_right, mem_cases, mem_into, mem_out, mem_mid}
-use Rattle.daggy_base.proofs.Lists.{unique_right}
-use Rattle.daggy_base.proofs.Lists.{fewer_than, split_at}
+use Rattle.daggy_base.proofs.Lists.{unique_mid, unique_right, fewer_than, split_at}
 use Rattle.daggy_base.proofs.Lists.{contains_mem, mem_contains, unique_from_distinct}
 use Rattle.daggy_order.specs.Links.{Listed, LeadsTo, IsLinkChain, AreLinksOf, nodes_from, neighbor}
 use Rattle.daggy_base.proofs.Sorted.{distinct_from_unique, unique_cross}
@@ -108,7 +107,7 @@ pub record Keeps (end : ℕ) (links : Linking) (count : ℕ) (nodes : List ℕ) 
   pub same : nodes_from end links.next links.first count ≡ nodes
 
 -- a chain of distinct nodes is what links keep
-are_links : {end : ℕ} {next previous : List ℕ} {first last : ℕ} {xs : List ℕ}
+pub are_links : {end : ℕ} {next previous : List ℕ} {first last : ℕ} {xs : List ℕ}
     → IsLinkChain (neighbor end first next) (neighbor end last previous) end xs end → Unique (end ∷ xs)
     → ((n : ℕ) → Mem n xs → n < length previous) → AreLinksOf end next previous first last xs
 are_links {end} {next} {previous} {first} {last} {xs} chain once within = record {
@@ -118,7 +117,7 @@ are_links {end} {next} {previous} {first} {last} {xs} chain once within = record
 }
 
 -- a walk along links gives the nodes that they lead over
-keeps : {end : ℕ} (links : Linking) {xs : List ℕ}
+pub keeps : {end : ℕ} (links : Linking) {xs : List ℕ}
     → AreLinksOf end links.next links.previous links.first links.last xs → (count : ℕ) → count ≡ length xs
     → Keeps end links count xs
 keeps {end} links {xs} s count is =
@@ -345,23 +344,12 @@ module _ {end : ℕ} {next previous : List ℕ} {first last : ℕ} {xs : List �
           let A : List ℕ → Type 0 = λ z. Unique (end ∷ z) in
           let B : List ℕ → Type 0 = λ z. Mem n z → ⊥ in
           let u = subst A at once in
+          let C : List ℕ → Type 0 = λ z. Unique z in
+          let both : us ++ p ∷ vs ≡ (us ++ p ∷ []) ++ vs = sym (append_assoc us (p ∷ []) vs) in
           let not_in = subst B at (λ m. can.fresh (inr m)) in (
             λ m. elim (from_put end m) [ inl e ↦ can.fresh (inl (sym e)) | inr b ↦ once.0 b ],
-            spread_out us p vs n u.1 not_in,
-          )
-        where
-          spread_out : (rest : List ℕ) (x : ℕ) (bs : List ℕ) (y : ℕ)
-              → Unique (rest ++ x ∷ bs) → (Mem y (rest ++ x ∷ bs) → ⊥) → Unique (rest ++ x ∷ (y ∷ bs))
-          spread_out [] x bs y u d = (λ m. elim m [ inl e ↦ d (inl (sym e)) | inr b ↦ u.0 b ], (λ m. d (inr m), u.1))
-          spread_out (a ∷ rest) x bs y u d = (
-            λ m. elim (mem_cases rest (x ∷ (y ∷ bs)) a m) [
-              | inl l ↦ u.0 (mem_left rest (x ∷ bs) a l)
-              | inr r ↦ elim r [
-                | inl e ↦ u.0 (mem_right rest (x ∷ bs) a (inl e))
-                | inr t ↦ elim t [ inl e ↦ d (inl (sym e)) | inr b ↦ u.0 (mem_right rest (x ∷ bs) a (inr b)) ]
-              ]
-            ],
-            spread_out rest x bs y u.1 (λ m. d (inr m)),
+            subst C (append_assoc us (p ∷ []) (n ∷ vs))
+                (unique_mid (us ++ p ∷ []) vs n (subst C both u.1) (subst B both not_in)),
           )
 
       count_put : count ≡ length (us ++ p ∷ (n ∷ vs))
@@ -408,16 +396,8 @@ module _ {end : ℕ} {next previous : List ℕ} {first last : ℕ} {xs : List �
       once_renamed : Unique (end ∷ (us ++ n ∷ vs))
       once_renamed = (
         λ h. elim (from_renamed end h) [ inl e ↦ can.fresh (inl (sym e)) | inr b ↦ once.0 b ],
-        spread_in us n vs once_others.1 (λ h. not_there (inr (mem_into us vs o n h))),
+        unique_mid us vs n once_others.1 (λ h. not_there (inr (mem_into us vs o n h))),
       )
-        where
-          spread_in : (rest : List ℕ) (y : ℕ) (bs : List ℕ)
-              → Unique (rest ++ bs) → (Mem y (rest ++ bs) → ⊥) → Unique (rest ++ y ∷ bs)
-          spread_in [] y bs u d = (d, u)
-          spread_in (a ∷ rest) y bs u d = (
-            λ h. elim (mem_out rest bs y a h) [ inl e ↦ d (inl (sym e)) | inr b ↦ u.0 b ],
-            spread_in rest y bs u.1 (λ h. d (inr h)),
-          )
 
       count_renamed : count ≡ length (us ++ n ∷ vs)
       count_renamed =

@@ -1,6 +1,7 @@
 -- The links between the nodes of an order, and their labels.
 use Rattle.std.specs.Prelude.{◌≡◌, ◌≢◌, ℕ, zero, suc, ◌+◌, ◌-◌, ◌<◌, ◌≤◌, ◌==◌, ◌^◌, List, [], ◌∷◌, ◌++◌, length, take, drop, map}
-use Rattle.std.specs.Prelude.{filter, not, Bool, true, ◌↔◌, slice_index, slice_index_or, Contains, if◌then◌else◌}
+use Rattle.std.specs.Prelude.{filter, not, Bool, true, ◌↔◌, ◌⊎◌, slice_index, slice_index_or, Contains, if◌then◌else◌}
+use Rattle.std.specs.List.{range_with_len}
 use Rattle.daggy_base.specs.Cursor.{first_of}
 use Rattle.daggy_base.specs.Ordered.{place}
 use Rattle.daggy_base.specs.Removal.{without}
@@ -64,6 +65,22 @@ abbrev pub LabelsAscend : (labels : List ℕ) → (low : ℕ) → List ℕ → (
 LabelsAscend labels low [] high = low < high
 LabelsAscend labels low (n ∷ nodes) high =
     (low < slice_index labels n) × LabelsAscend labels (slice_index labels n) nodes high
+
+-- the items of the `count` nodes after node n, by their indices, are written: each leads to the next index and to the
+-- one before, and their labels ascend from above `low` to at most `high`; the other items are kept
+pub record IsRunWritten {I : Type 0} (end : ℕ) (old new : List (Item I)) (n count low high : ℕ) : Type 0 where
+  pub sized : length new ≡ length old
+  pub next : (k : ℕ) → n < k → k ≤ n + count → slice_index_or (nexts_of new) k end ≡ k + 1
+  pub previous : (k : ℕ) → n ≤ k → k < n + count → slice_index_or (previous_of new) (k + 1) end ≡ k
+  pub ascending : LabelsAscend (labels_of new) low (range_with_len (n + 1) count) (high + 1)
+  pub others : (k : ℕ) → (k ≤ n) ⊎ (n + count < k)
+      → slice_index_or new k (vacant end) ≡ slice_index_or old k (vacant end)
+
+-- n is the last of these nodes, and none is greater
+pub record EndsAtGreatest (nodes : List ℕ) (n : ℕ) : Type 0 where
+  pub before : List ℕ
+  pub is : nodes ≡ before ++ n ∷ []
+  pub most : (m : ℕ) → Contains nodes m → m ≤ n
 
 -- the labels ascend along a list, and are 0 for a node that is not in it
 pub record IsLabelled (labels nodes : List ℕ) : Type 0 where

@@ -9,6 +9,7 @@ ghost use Rattle.daggy_base.specs.WellFormed.{AreDistinct};
 ghost use Rattle.daggy_base.specs.Ordered.{place};
 ghost use Rattle.daggy_order.specs.Links.{IsLabelled, IsTailed};
 
+use crate::list::labels::gap_between;
 use crate::list::links::Links;
 use daggy_base::index::{IndexType, NodeIndex};
 use daggy_base::link::Link;
@@ -116,8 +117,10 @@ fn take_out<Ix: IndexType>(links: &mut Links<Ix>, n: NodeIndex<Ix>)
     links.remove(Link::of_node(n));
 }
 
-// Puts a run of nodes last. There must be room for them.
-fn put_run<Ix: IndexType>(links: &mut Links<Ix>, from: usize, count: usize)
+// Puts a run of nodes last, one by one. There must be room for them.
+#[cold]
+#[inline(never)]
+fn put_each<Ix: IndexType>(links: &mut Links<Ix>, from: usize, count: usize)
     requires labelled { IsLabelled links.old.labels links.old.nodes }
     requires below { (n : ℕ) → Contains links.old.nodes n → n < from }
     requires real { from + count ≤ Ix.greatest }
@@ -127,6 +130,27 @@ fn put_run<Ix: IndexType>(links: &mut Links<Ix>, from: usize, count: usize)
 {
     'nodes: for i in 0..count {
         put_last(links, Link::new(from + i));
+    }
+}
+
+// Puts a run of nodes last. There must be room for them.
+fn put_run<Ix: IndexType>(links: &mut Links<Ix>, from: usize, count: usize)
+    requires some { 0 < count }
+    requires labelled { IsLabelled links.old.labels links.old.nodes }
+    requires below { (n : ℕ) → Contains links.old.nodes n → n < from }
+    requires real { from + count ≤ Ix.greatest }
+    requires numbered { from + count ≤ length links.old.labels }
+    ensures nodes { links.new.nodes ≡ links.old.nodes ++ range_with_len from count }
+    ensures labelled { IsLabelled links.new.labels links.new.nodes }
+{
+    put_last(links, Link::new(from));
+    let more = count - 1;
+    let low = links.label(from);
+    let gap = gap_between(low, u64::MAX, more);
+    if gap > 0 {
+        links.extend_run(from, more, low, gap);
+    } else {
+        put_each(links, from + 1, more);
     }
 }
 

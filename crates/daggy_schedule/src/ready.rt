@@ -11,8 +11,7 @@ use daggy_base::index::{DefaultIx, Direction, EdgeIndex, IndexType, NodeIndex};
 use daggy_base::link::Link;
 use daggy_base::store::Store;
 use daggy_dag::acyclic::Acyclic;
-use daggy_guard::prefetch::touch_list;
-use daggy_walk::prefetch::PREFETCH_FROM;
+use daggy_walk::prefetch::{PREFETCH_FROM, touch_list};
 use std::alloc::{AllocError, Global};
 use std::marker::Model;
 

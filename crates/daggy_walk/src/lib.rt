@@ -4,4 +4,5 @@
 mod bits;
 pub mod prefetch;
 pub mod visit;
+pub mod walk;
 pub mod walker;

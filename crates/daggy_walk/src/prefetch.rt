@@ -5,7 +5,8 @@
 //! reads.
 ghost use Rattle.std.specs.Prelude.{IsTrue, IfSome};
 
-use daggy_base::index::{Direction, EdgeIndex, IndexType};
+use crate::walk::step;
+use daggy_base::index::{Direction, EdgeIndex, IndexType, NodeIndex};
 use daggy_base::store::Store;
 
 /// The number of edges from which on a graph is expected not to fit the second-level cache, so that
@@ -42,13 +43,12 @@ fn touch_next<Ix: IndexType, S: Store<Ix>>(
         return None;
     }
     let e = EdgeIndex::new(*cursor);
-    match graph.edge_endpoints(e) {
-        Some(ends) => {
-            *cursor = graph.next_edge(e, dir).index();
-            Some(ends.0.index() < graph.node_slots())
-        }
-        None => None,
+    if !graph.contains_edge(e) {
+        return None;
     }
+    let answer = touch_edge(graph, e);
+    *cursor = graph.next_edge(e, dir).index();
+    Some(answer)
 }
 
 /// Reads lists side by side from the edges with these indices on, if the graph is large, until one
@@ -76,6 +76,60 @@ pub fn touch_lists<Ix: IndexType, S: Store<Ix>>(
         }
         if lists < 2 {
             break;
+        }
+    }
+    true
+}
+
+/// Reads up to `most` edges of a list of a node. The answer is always true.
+#[inline]
+pub fn touch_list<Ix: IndexType, S: Store<Ix>>(
+    graph: &S,
+    n: NodeIndex<Ix>,
+    dir: Direction,
+    most: usize,
+) -> bool
+    ensures { IsTrue result }
+{
+    graph.invariant();
+    let end = EdgeIndex::<Ix>::end().index();
+    let mut e = graph.first_edge(n, dir);
+    'edges: for _i in 0..most {
+        if e.index() == end {
+            return true;
+        }
+        if !graph.contains_edge(e) {
+            return false;
+        }
+        e = graph.next_edge(e, dir);
+    }
+    e.index() == end || graph.contains_edge(e)
+}
+
+/// Reads where the list of each neighbor of a node begins. The answer is always true.
+///
+/// A removal of the node's edges reads the same list heads, and each read waits for the removal
+/// before it; these reads wait only for the walk along the node's own list.
+#[inline]
+pub fn touch_neighbors<Ix: IndexType, S: Store<Ix>>(
+    graph: &S,
+    n: NodeIndex<Ix>,
+    dir: Direction,
+) -> bool
+    ensures { IsTrue result }
+{
+    graph.invariant();
+    let mut cursor = graph.first_edge(n, dir);
+    'edges: for _i in 0..graph.edge_slots() {
+        let Some((_e, far)) = step(graph, dir, &mut cursor) else {
+            return true;
+        };
+        let mut first = graph.first_edge(far, dir.opposite());
+        let Some((_first, same)) = step(graph, dir, &mut first) else {
+            return false;
+        };
+        if same.index() != far.index() {
+            return false;
         }
     }
     true

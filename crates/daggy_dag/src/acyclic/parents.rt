@@ -18,8 +18,8 @@ use daggy_base::error::{ParentsError, WouldCycle};
 use daggy_base::index::{Direction, EdgeIndex, IndexType, NodeIndex};
 use daggy_base::store::Store;
 use daggy_guard::parents::{add_parents, make_way_for_parents};
-use daggy_guard::walk;
 use daggy_reduction::reduce::remove_edges;
+use daggy_walk::walk;
 use std::alloc::{AllocError, Global};
 
 // The edges that enter a node.

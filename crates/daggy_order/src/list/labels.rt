@@ -18,9 +18,9 @@ const HIGHEST: u64 = LOWEST + (1 << 63);
 
 // The widest gap at which `count` labels fit between `low` and `high`, or 0 if there is no room.
 #[inline]
-fn gap_between(low: u64, high: u64, count: usize) -> u64
+pub(super) fn gap_between(low: u64, high: u64, count: usize) -> u64
     requires order { low ≤ high }
-    requires few { count < 2 ^ 63 }
+    requires few { count + 1 < 2 ^ 64 }
     ensures fits { 0 < result → low + result * count < high }
     ensures some { count < high - low → 0 < result }
 {

@@ -1,12 +1,13 @@
 //! A doubly linked list of labelled nodes.
-ghost use Rattle.std.specs.Prelude.{◌≡◌, ◌≢◌, ℕ, ◌+◌, ◌<◌, ◌≤◌, ◌⊎◌, ◌^◌, [], ◌∷◌, ◌++◌, List};
+ghost use Rattle.std.specs.Prelude.{◌≡◌, ◌≢◌, ℕ, ◌+◌, ◌*◌, ◌<◌, ◌≤◌, ◌⊎◌, ◌^◌, [], ◌∷◌, ◌++◌, List};
 ghost use Rattle.std.specs.Prelude.{Contains, length, vec_len, vec_capacity, slice_index};
 ghost use Rattle.std.specs.Prelude.{slice_index_or, slice_set, map, max, IfOk, IsOk, OnOk, OnErr};
+ghost use Rattle.std.specs.List.{range_with_len};
 ghost use Rattle.daggy_base.specs.Cursor.{first_of};
 ghost use Rattle.daggy_base.specs.Removal.{without, renamed};
 ghost use Rattle.daggy_base.specs.WellFormed.{AreDistinct};
 ghost use Rattle.daggy_order.specs.Links.{neighbor, nexts_of, previous_of, labels_of, vacant};
-ghost use Rattle.daggy_order.specs.Links.{LeadsTo};
+ghost use Rattle.daggy_order.specs.Links.{LeadsTo, LabelsAscend, IsRunWritten, EndsAtGreatest};
 
 use daggy_base::index::IndexType;
 use daggy_base::link::Link;
@@ -182,6 +183,30 @@ fn join<Ix: IndexType>(
 {
     set_next(items, first, p, q);
     set_previous(items, last, p, q);
+}
+
+// Writes the items of the `count` nodes that follow node `n` by their indices: each leads to the next
+// index and to the one before, and is labelled `gap` above the one before it, the first above `low`.
+#[inline]
+fn write_run<Ix: IndexType>(items: &mut Vec<Item<Ix>>, n: usize, count: usize, low: u64, gap: u64)
+    requires real { n + count < Ix.greatest }
+    requires numbered { n + count < vec_len items.old }
+    requires some { 0 < gap }
+    requires fits { low + gap * count < 2 ^ 64 }
+    ensures written { IsRunWritten Ix.greatest items.old.items items.new.items n count low
+        (low + gap * count) }
+    ensures capacity { vec_capacity items.new ≡ vec_capacity items.old }
+{
+    let mut label = low;
+    'run: for i in 0..count {
+        let before = n + i;
+        label += gap;
+        items[before + 1] = Item {
+            next: Link::new(before + 2),
+            previous: Link::new(before),
+            label,
+        };
+    }
 }
 
 impl<Ix: IndexType> Links<Ix> {
@@ -382,6 +407,33 @@ impl<Ix: IndexType> Links<Ix> {
             let last = self.last;
             self.put_after(last, n);
         }
+    }
+
+    /// Puts the `count` nodes last that follow the last node `n` by their indices, and labels them in
+    /// steps of `gap` above `low`.
+    pub fn extend_run(&mut self, n: usize, count: usize, low: u64, gap: u64)
+        requires ends { EndsAtGreatest self.old.nodes n }
+        requires real { n + count < Ix.greatest }
+        requires numbered { n + count < length self.old.labels }
+        requires some { 0 < gap }
+        requires fits { low + gap * count < 2 ^ 64 }
+        ensures nodes { self.new.nodes ≡ self.old.nodes ++ range_with_len (n + 1) count }
+        ensures ascending { LabelsAscend self.new.labels low (range_with_len (n + 1) count)
+            (low + gap * count + 1) }
+        ensures others { (k : ℕ) → (k ≤ n) ⊎ (n + count < k)
+            → slice_index self.new.labels k ≡ slice_index self.old.labels k }
+    {
+        let last = Link::new(n + count);
+        write_run(&mut self.items, n, count, low, gap);
+        set_next(
+            &mut self.items,
+            &mut self.first,
+            Link::new(n),
+            Link::new(n + 1),
+        );
+        set_next(&mut self.items, &mut self.first, last, Link::end());
+        self.last = last;
+        self.count += count;
     }
 
     /// Takes a node out. Its label stays.

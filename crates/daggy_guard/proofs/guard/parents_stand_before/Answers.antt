@@ -1,7 +1,7 @@
 use Rattle.std.proofs.Common.{ℕ, sym, subst}
 use Rattle.std.specs.List.{Contains}
 use Rattle.daggy_guard.proofs.ParentsAsked.{none_asked, all_asked, one_asked}
-use Rattle.daggy_guard.proofs.WalkedEdges.{no_step, one_step}
+use Rattle.daggy_walk.proofs.WalkedEdges.{no_step, one_step}
 use Rattle.daggy_guard.proofs.guard.parents_stand_before.Goals as goal
 
 pub parents-init : goal.parents-init

@@ -1,49 +1,62 @@
-use Rattle.std.proofs.Common.{◌≡◌, ◌+◌, ℕ, List, [], ◌∷◌, ◌++◌, sym, ap, subst, inl, inr, refl, ◌∙◌, arith}
-use Rattle.std.proofs.Common.{append_assoc, append-nil}
+use Rattle.std.proofs.Common.{◌≡◌, ℕ, ◌+◌, ◌-◌, ◌*◌, List, [], ◌∷◌, ◌++◌, sym, ap, subst, ◌∙◌, arith, append_assoc}
 use Rattle.std.specs.List.{range_with_len}
-use Rattle.daggy_base.proofs.Lists.{Mem, mem_cases, contains_mem, mem_contains}
-use Rattle.daggy_order.proofs.Tails.{turn_high, turn_more}
+use Rattle.daggy_order.specs.Links.{LabelsAscend, IsLabelled, EndsAtGreatest}
+use Rattle.daggy_order.proofs.RunsWritten.{ends_here, labelled_run}
+use Rattle.daggy_order.proofs.Tails.{turn_first}
+use Rattle.daggy_order.proofs.list.put_run.Given.{Over}
+use Rattle.daggy_order.proofs.list.put_run.Goals.{After-put_last}
 use Rattle.daggy_order.proofs.list.put_run.Goals as goal
 
-pub nodes-init : goal.nodes-init
-nodes-init g c = (c.requires.labelled, (sym (append-nil c.args.links.now.nodes), refl))
+-- the first node is put last
+put : (g : Over) (c : After-put_last g) → c.put_last.new.links.nodes ≡ c.args.links.now.nodes ++ c.args.from ∷ []
+put g c = c.put_last.ensures.nodes ∙ ap (λ (z : ℕ). c.args.links.now.nodes ++ z ∷ []) c.new.ensures
 
-pub put_last-requires-clause-labelled : goal.put_last-requires-clause-labelled
-put_last-requires-clause-labelled g c = c.nodes.invariant.0
+ends : (g : Over) (c : After-put_last g) → EndsAtGreatest c.put_last.new.links.nodes c.args.from
+ends g c =
+    let P : List ℕ → Type 0 = λ z. EndsAtGreatest z c.args.from in
+    subst P (sym (put g c)) (ends_here c.args.links.now.nodes c.args.from c.requires.below)
+
+-- and the rest of the run behind it
+whole : (g : Over) (c : After-put_last g) → c.put_last.new.links.nodes ++ range_with_len (c.args.from + 1) (c.args.count - 1)
+    ≡ c.args.links.now.nodes ++ range_with_len c.args.from c.args.count
+whole g c =
+    let nodes = c.args.links.now.nodes in
+    let rest : List ℕ = range_with_len (c.args.from + 1) (c.args.count - 1) in
+    ap (λ (z : List ℕ). z ++ rest) (put g c)
+    ∙ (append_assoc nodes (c.args.from ∷ []) rest
+    ∙ ap (λ (z : List ℕ). nodes ++ z)
+    (sym (turn_first c.args.from c.args.count (λ e. omega (arith, e, c.requires.some)))))
 
 pub put_last-requires-clause-absent : goal.put_last-requires-clause-absent
-put_last-requires-clause-absent g c =
-    let n : ℕ = c.new.result in
-    let P : List ℕ → Type 0 = λ z. Mem n z in
-    λ h.
-    elim (mem_cases c.args.links.now.nodes (range_with_len c.args.from c.nodes.i) n
-    (subst P c.nodes.invariant.1.0 (contains_mem c.nodes.links.nodes n h))) [
-      | inl a ↦ absurd (omega (arith, c.new.ensures, c.requires.below n (mem_contains c.args.links.now.nodes n a)))
-      | inr b ↦ absurd (omega (arith, c.new.ensures, turn_high c.args.from c.nodes.i n b))
-    ]
+put_last-requires-clause-absent g c h =
+    let low = c.requires.below c.new.result h in
+    omega (arith, low, c.new.ensures)
 
-pub put_last-requires-clause-numbered : goal.put_last-requires-clause-numbered
-put_last-requires-clause-numbered g c =
-    omega (arith, c.new.ensures, c.requires.numbered, c.nodes-test.true, c.nodes.invariant.1.1)
+pub extend_run-requires-clause-ends : goal.extend_run-requires-clause-ends
+extend_run-requires-clause-ends g c = ends g (goal.at.extend_run-requires-clause-ends g c).After-put_last
 
-pub nodes-preserved : goal.nodes-preserved
-nodes-preserved g c =
-    let more : ℕ = c.nodes.i + 1 in (
-      c.put_last.ensures.labelled,
-      (
-        c.put_last.ensures.nodes
-            ∙ (ap (λ (z : List ℕ). z ++ c.new.result ∷ []) c.nodes.invariant.1.0
-            ∙ (append_assoc c.args.links.now.nodes (range_with_len c.args.from c.nodes.i) (c.new.result ∷ [])
-            ∙ ap (λ (z : List ℕ). c.args.links.now.nodes ++ z)
-            (sym (turn_more c.args.from c.nodes.i more c.new.result refl c.new.ensures)))),
-        c.put_last.ensures.sized ∙ c.nodes.invariant.1.1,
-      ),
-    )
+pub put_each-requires-clause-below : goal.put_each-requires-clause-below
+put_each-requires-clause-below g c =
+    let is_last = ends g (goal.at.put_each-requires-clause-below g c).After-put_last in
+    λ n h. omega (arith, is_last.most n h)
 
-pub returns-clause-nodes : goal.returns-clause-nodes
-returns-clause-nodes g c =
-    let ended : c.nodes.i ≡ c.args.count = omega (arith, c.nodes-test.false, c.nodes.auto.i-end) in
-    c.nodes.invariant.1.0 ∙ ap (λ (z : ℕ). c.args.links.now.nodes ++ range_with_len c.args.from z) ended
+pub returns-then-gap-gt0-clause-nodes : goal.returns-then-gap-gt0-clause-nodes
+returns-then-gap-gt0-clause-nodes g c =
+    c.extend_run.ensures.nodes ∙ whole g (goal.at.returns-then-gap-gt0-clause-nodes g c).After-put_last
 
-pub returns-clause-labelled : goal.returns-clause-labelled
-returns-clause-labelled g c = c.nodes.invariant.0
+pub returns-then-gap-gt0-clause-labelled : goal.returns-then-gap-gt0-clause-labelled
+returns-then-gap-gt0-clause-labelled g c =
+    let more : ℕ = c.args.count - 1 in
+    let new = c.extend_run.new.self.labels in
+    let high : ℕ = c.label-low.result + c.gap_between-gap.result * more in
+    let fits = c.gap_between-gap.ensures.fits c.if-gap-gt0.true in
+    let A : ℕ → Type 0 = λ z. LabelsAscend new z (range_with_len (c.args.from + 1) more) (high + 1) in
+    let B : List ℕ → Type 0 = λ z. IsLabelled new z in
+    subst B (sym c.extend_run.ensures.nodes)
+    (labelled_run c.put_last.ensures.labelled
+    (ends g (goal.at.returns-then-gap-gt0-clause-labelled g c).After-put_last) new more high
+    (subst A c.label-low.ensures c.extend_run.ensures.ascending) (omega (arith, fits)) c.extend_run.ensures.others)
+
+pub returns-else-gap-gt0-clause-nodes : goal.returns-else-gap-gt0-clause-nodes
+returns-else-gap-gt0-clause-nodes g c =
+    c.put_each.ensures.nodes ∙ whole g (goal.at.returns-else-gap-gt0-clause-nodes g c).After-put_last

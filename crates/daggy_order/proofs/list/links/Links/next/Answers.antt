@@ -1,8 +1,8 @@
-use Rattle.std.proofs.Common.{◌<◌, ◌∙◌, sym, ap, subst, arith, length}
-use Rattle.daggy_base.proofs.Lists.{Mem, contains_mem}
+use Rattle.std.proofs.Common.{◌<◌, ◌∙◌, ap, arith, length}
 use Rattle.daggy_order.specs.Links.{Listed}
-use Rattle.daggy_order.proofs.Items.{previous_many, next_read}
-use Rattle.daggy_order.proofs.LinkedNodes.{inside, next_is}
+use Rattle.daggy_order.proofs.Items.{next_read}
+use Rattle.daggy_order.proofs.LinkedNodes.{next_is}
+use Rattle.daggy_order.proofs.NodeItems.{is_held, item_low}
 use Rattle.daggy_order.proofs.list.links.Links.next.Given.{Over}
 use Rattle.daggy_order.proofs.list.links.Links.next.Goals.{After-index}
 use Rattle.daggy_order.proofs.list.links.Links.next.Goals as goal
@@ -10,14 +10,8 @@ use Rattle.daggy_order.proofs.list.links.Links.next.Goals as goal
 -- there is an item for the node
 low : (g : Over) (c : After-index g) → c.index.result < length c.self.inside.items.items
 low g c =
-    let P : Listed → Type 0 = λ z. Mem c.args.n z.nodes in
-    let m = subst P (sym c.self.view_is) (contains_mem c.args.self.now.nodes c.args.n c.requires) in
-    omega (
-      arith,
-      c.index.ensures.value,
-      inside c.self.invariant c.args.n m,
-      previous_many c.self.inside.items.items,
-    )
+    let held = is_held (ap (λ (z : Listed). z.nodes) c.self.view_is) c.requires in
+    omega (arith, c.index.ensures.value, item_low c.self.inside.items.items c.self.invariant held)
 
 pub index-requires-2 : goal.index-requires-2
 index-requires-2 g c =

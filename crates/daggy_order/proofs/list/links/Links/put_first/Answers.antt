@@ -1,63 +1,38 @@
 use Rattle.std.proofs.Common.{rules, ◌≡◌, ℕ, suc, ◌+◌, ◌<◌, inl, inr, List, ◌^◌, ◌∷◌, ◌∙◌, sym, ap, subst, arith}
-use Rattle.std.proofs.Common.{length}
 use Rattle.daggy_order.specs.Links.{Listed, LeadsTo, nodes_from, neighbor, nexts_of, previous_of}
 use Rattle.daggy_order.proofs.Chains.{IsPut, neighbor_end}
-use Rattle.daggy_order.proofs.Items.{previous_many, labels_many, as_many}
-use Rattle.daggy_order.proofs.LinkedNodes.{Linking, Keeps, CanPut, listed, few, length_walk, is_put, is_fresh, not_led}
+use Rattle.daggy_order.proofs.Items.{previous_many, as_many}
+use Rattle.daggy_order.proofs.LinkedNodes.{Keeps, listed, few, length_walk, is_put, not_led}
 use Rattle.daggy_order.proofs.LinkedNodes.{first_leads, leads_within, put_first_kept}
+use Rattle.daggy_order.proofs.NodeItems.{linking, can_put}
 use Rattle.daggy_order.proofs.list.links.Links.put_first.Given.{Over}
 use Rattle.daggy_order.proofs.list.links.Links.put_first.Goals.{After-join-2}
 use Rattle.daggy_order.proofs.list.links.Links.put_first.Goals as goal
 
--- the links after the two joins
-abbrev linking : (g : Over) → After-join-2 g → Linking
-linking g c = record {
-  next = nexts_of c.join-2.new.items.items;
-  previous = previous_of c.join-2.new.items.items;
-  first = c.join-2.new.first;
-  last = c.join-2.new.last;
-}
-
--- they lead over n too, before the others
+-- the links after the two joins lead over n too, before the others
 put : (g : Over) (c : After-join-2 g)
-    → Keeps g.Ix.IndexType.greatest (linking g c) (c.self.inside.count + 1) (c.args.n ∷ c.args.self.now.nodes)
+    → Keeps g.Ix.IndexType.greatest (linking c.join-2.new.items.items c.join-2.new.first c.join-2.new.last)
+    (c.self.inside.count + 1) (c.args.n ∷ c.args.self.now.nodes)
 put g c =
     let E : ℕ = g.Ix.IndexType.greatest in
     let s = c.self.invariant in
     let items = c.self.inside.items.items in
+    let between = c.join.new.items.items in
+    let new = c.join-2.new.items.items in
     let xs = nodes_from E (nexts_of items) c.self.inside.first c.self.inside.count in
     let nodes : xs ≡ c.args.self.now.nodes = ap (λ (z : Listed). z.nodes) c.self.view_is in
-    let fresh = is_fresh nodes c.requires.real c.requires.absent in
-    let can : CanPut E xs (previous_of items) (linking g c) c.args.n =
-    record {
-      fresh = fresh;
-      low = omega (
-        arith,
-        c.requires.numbered,
-        ap (λ (z : Listed). length z.labels) c.self.view_is,
-        previous_many items,
-        labels_many items,
-      );
-      long = omega (
-        arith,
-        as_many items c.join.new.items.items c.join.ensures.labels,
-        as_many c.join.new.items.items c.join-2.new.items.items c.join-2.ensures.labels,
-        previous_many items,
-        previous_many c.join-2.new.items.items,
-      );
-    } in
+    let can =
+    can_put items between new c.join-2.new.first c.join-2.new.last nodes (ap (λ (z : Listed). z.labels) c.self.view_is)
+    c.requires.real c.requires.absent c.requires.numbered c.join.ensures.labels c.join-2.ensures.labels in
     let at_end : c.end.result ≡ E = c.end.ensures.value in
     let N : ℕ → ℕ = neighbor E c.self.inside.first (nexts_of items) in
     let P : ℕ → ℕ = neighbor E c.self.inside.last (previous_of items) in
-    let A : ℕ → Type 0 = λ z.
-    LeadsTo N (neighbor E c.join.new.first (nexts_of c.join.new.items.items)) z c.args.n in
-    let B : ℕ → Type 0 = λ z.
-    LeadsTo P (neighbor E c.join.new.last (previous_of c.join.new.items.items)) c.args.n z in
-    let is_first : IsPut N P (neighbor E c.join-2.new.first (nexts_of c.join-2.new.items.items))
-    (neighbor E c.join-2.new.last (previous_of c.join-2.new.items.items)) E c.args.n =
-    is_put (neighbor E c.join.new.first (nexts_of c.join.new.items.items))
-    (neighbor E c.join.new.last (previous_of c.join.new.items.items)) c.requires.real
-    (not_led xs fresh c.self.inside.first (first_leads s))
+    let A : ℕ → Type 0 = λ z. LeadsTo N (neighbor E c.join.new.first (nexts_of between)) z c.args.n in
+    let B : ℕ → Type 0 = λ z. LeadsTo P (neighbor E c.join.new.last (previous_of between)) c.args.n z in
+    let is_first : IsPut N P (neighbor E c.join-2.new.first (nexts_of new))
+    (neighbor E c.join-2.new.last (previous_of new)) E c.args.n =
+    is_put (neighbor E c.join.new.first (nexts_of between)) (neighbor E c.join.new.last (previous_of between))
+    c.requires.real (not_led xs can.fresh c.self.inside.first (first_leads s))
     (sym (neighbor_end E c.self.inside.first (nexts_of items))) (subst A at_end c.join.ensures.next)
     c.join-2.ensures.next (subst B at_end c.join.ensures.previous) c.join-2.ensures.previous in
     let counted = ap suc (length_walk E (nexts_of items) c.self.inside.first c.self.inside.count) in

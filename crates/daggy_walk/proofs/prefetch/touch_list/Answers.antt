@@ -1,7 +1,7 @@
 use Rattle.std.proofs.Common.{◌≢◌, is_some, sym, ap, ◌∙◌, arith, ◌+◌}
 use Rattle.std.proofs.lemmas.Bool.{false≢true}
-use Rattle.daggy_guard.proofs.ListCursors.{at_edge, at_next}
-use Rattle.daggy_guard.proofs.prefetch.touch_list.Goals as goal
+use Rattle.daggy_walk.proofs.ListCursors.{at_edge, at_next}
+use Rattle.daggy_walk.proofs.prefetch.touch_list.Goals as goal
 
 pub edges-init : goal.edges-init
 edges-init g c = (0, record { within = omega arith; cursor = c.first_edge-e.ensures })

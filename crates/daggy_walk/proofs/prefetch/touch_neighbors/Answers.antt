@@ -1,7 +1,7 @@
 use Rattle.std.proofs.Common.{◌∙◌, ℕ, ap, sym}
 use Rattle.std.proofs.lemmas.Option.{same_Some}
-use Rattle.daggy_guard.proofs.WalkedEdges.{far_list_begins}
-use Rattle.daggy_guard.proofs.prefetch.touch_neighbors.Goals as goal
+use Rattle.daggy_walk.proofs.WalkedEdges.{far_list_begins}
+use Rattle.daggy_walk.proofs.prefetch.touch_neighbors.Goals as goal
 
 pub returns-in_default-step : goal.returns-in_default-step
 returns-in_default-step g c =

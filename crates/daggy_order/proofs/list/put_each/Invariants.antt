@@ -1,7 +1,7 @@
 use Rattle.std.proofs.Common.{◌≡◌, ◌++◌, length}
 use Rattle.std.specs.List.{range_with_len}
 use Rattle.daggy_order.specs.Links.{IsLabelled}
-use Rattle.daggy_order.proofs.list.put_run.Given as goal
+use Rattle.daggy_order.proofs.list.put_each.Given as goal
 
 abbrev pub invariant-nodes : goal.invariant-nodes
 invariant-nodes g l =
