@@ -12,7 +12,7 @@ use crate::text::TextWriter;
 use crate::values::write_weight;
 use daggy_base::index::{Direction, EdgeIndex, IndexType, NodeIndex};
 use daggy_base::store::Store;
-use daggy_walk::prefetch::touch_lists;
+use daggy_walk::prefetch::{PREFETCH_FROM, touch_lists};
 use json::Token;
 use serde_json::Value;
 use std::alloc::AllocError;
@@ -181,11 +181,15 @@ fn stream_orders<W: Write, Ix: IndexType, S: Store<Ix>>(store: &S, out: &mut Tex
         (listed (map (row_of (S.graph store.now)) (node_identifiers (S.graph store.now))))) }
 {
     let bound = store.node_bound();
+    let is_large = store.edge_slots() >= PREFETCH_FROM;
     out.token(Token::BeginArray);
     let mut i = 0;
     'nodes: while i < bound {
         // Never taken: this is a prefetch.
-        if i % AHEAD == 0 && !touch_nodes(store, i, bound.min(i.saturating_add(AHEAD))) {
+        if is_large
+            && i % AHEAD == 0
+            && !touch_nodes(store, i, bound.min(i.saturating_add(AHEAD)))
+        {
             return;
         }
         let n = NodeIndex::new(i);
