@@ -94,6 +94,19 @@ impl Block {
         self.len <= CAPACITY - LONGEST
     }
 
+    /// Appends a byte, after a comma if `comma`.
+    #[inline(always)]
+    pub(crate) fn push_after_comma(&mut self, comma: bool, byte: u8)
+        requires { length self.old + LONGEST ≤ CAPACITY }
+        ensures { self.new ≡ self.old ++ (cond comma (44 ∷ []) [] ++ byte ∷ []) }
+    {
+        // Where no comma is due, the byte is written over it.
+        self.bytes[self.len] = b',';
+        let at = self.len + usize::from(comma);
+        self.bytes[at] = byte;
+        self.len = at + 1;
+    }
+
     /// Appends a number, after a comma if `comma`. The digits are written where they stay.
     #[inline]
     pub(crate) fn push_number(&mut self, comma: bool, n: u64)

@@ -5,6 +5,7 @@ ghost use Rattle.std.specs.Io.KnownBytes.{Appends};
 ghost use Rattle.json.specs.Print.{begins as token_begins, ends as token_ends};
 ghost use Rattle.json.specs.Print.{escape_letter as letter_of, escape_byte, quoted, token_text, IsPrintable};
 ghost use Rattle.json.specs.Reads.{token_of};
+ghost use Rattle.json.specs.Token.{begin_array};
 ghost use Rattle.daggy_json.specs.Document.{whole};
 ghost use Rattle.daggy_json.specs.Streaming.{AppendsFront};
 ghost use Rattle.daggy_json.specs.Passing.{SendsBytes, HasFailed, StaysOn, Holds, Puts, Passes, Writes, AreTokensOf};
@@ -248,6 +249,16 @@ impl<'a, W: Write> TextWriter<'a, W> {
         }
         self.after_value = ends(token);
         self.put_token(token);
+    }
+
+    /// Begins an array, after a comma if it needs one.
+    #[inline(always)]
+    pub(crate) fn begin_array(&mut self)
+        ensures { Passes W.contents self.old self.new (begin_array ∷ []) }
+    {
+        self.make_room();
+        self.block.push_after_comma(self.after_value, b'[');
+        self.after_value = false;
     }
 
     /// Writes a number that is not negative, after a comma if it needs one.

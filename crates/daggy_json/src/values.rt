@@ -64,7 +64,7 @@ pub(crate) fn write_value<W: Write>(value: &Value, out: &mut TextWriter<'_, W>)
 fn write_items<W: Write>(items: &Vec<Value>, out: &mut TextWriter<'_, W>)
     ensures { Writes W.contents out.old out.new (AreTokensOf (array (items_view items.now.items))) }
 {
-    out.token(Token::BeginArray);
+    out.begin_array();
     for item in items {
         write_value(item, out);
     }
