@@ -1,4 +1,4 @@
-use Rattle.std.proofs.Common.{◌≡◌, ◌+◌, ◌-◌, length, decimal}
+use Rattle.std.proofs.Common.{◌≡◌, ◌+◌, length, decimal}
 use Rattle.daggy_json.proofs.block.count_digits.Given as goal
 
 abbrev pub invariant-digits : goal.invariant-digits

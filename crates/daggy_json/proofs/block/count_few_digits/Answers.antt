@@ -1,4 +1,4 @@
-use Rattle.std.proofs.Common.{ℕ, ◌≡◌, ◌+◌, ◌/◌, ◌<◌, ◌≤◌, ◌∙◌, length, decimal, ap, sym, arith}
+use Rattle.std.proofs.Common.{ℕ, ◌≡◌, ◌+◌, ◌/◌, ◌<◌, ◌≤◌, length, decimal, sym, arith}
 use Rattle.itoa.proofs.Decimal.{length_one, length_two, length_pair, length_four}
 use Rattle.daggy_json.proofs.block.count_few_digits.Goals as goal
 

@@ -1,5 +1,5 @@
 use Rattle.std.specs.Option.{option_copied}
-use Rattle.std.proofs.Common.{◌+◌, List, map, take, ap, sym, subst, ◌∙◌, arith}
+use Rattle.std.proofs.Common.{List, map, take, ap, sym, subst, ◌∙◌, arith}
 use Rattle.json.specs.Token.{Token}
 use Rattle.daggy_base.specs.Graph.{slot}
 use Rattle.daggy_base.specs.Iterating.{numbered, node_weights}
