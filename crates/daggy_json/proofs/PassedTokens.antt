@@ -114,3 +114,23 @@ module _ {W : Type 0} {contents : W → Option (List ℕ)} where
           (q.holds start (print us ++ comma) (p.holds start (print us) h.holds));
     };
   }
+
+  -- the same, put into the block at once
+  pub token_passes_at_once : {a b : TextWriter W} {block : List ℕ} {after : Bool} (t : Token) → IsPrintable t
+      → begins t ≡ true → after ≡ ends t → Puts contents a b []
+      → block ≡ b.block ++ (cond b.after_value (44 ∷ []) [] ++ token_text t)
+      → Passes contents a (record { writer = b.writer; block = block; after_value = after; fault = b.fault }) (t ∷ [])
+  token_passes_at_once {a} {b} {block} {after} t printable first after_is p more =
+      let PutsTo = Puts contents a (record { writer = b.writer; block = block; after_value = b.after_value; fault = b.fault }) in
+      let due = ap (λ k. cond k (44 ∷ []) []) p.place ∙ separator_begins a.after_value t first in
+      let q = subst (λ l. PutsTo (l ++ token_text t)) due (puts_then p (block_puts _ refl refl refl more)) in
+      record {
+        stays = record { same_reference = q.stays.same_reference; failed = q.stays.failed };
+        stands = λ start us h. record {
+          printable = ArePrintable-push us t h.printable printable;
+          place = after_is ∙ sym (ends_push false us t);
+          holds = subst (λ l. HasText start l b.fault (contents b.writer.now) block)
+              (ap (λ k. print us ++ (separator k t ++ token_text t)) h.place ∙ sym (print_from_push false us t))
+              (q.holds start (print us) h.holds);
+        };
+      }

@@ -1,13 +1,16 @@
 //! Bytes on their way to a writer, gathered so that it is called for many of them at once.
-ghost use Rattle.std.specs.Prelude.{◌≡◌, ◌↔◌, ◌+◌, ◌<◌, ◌≤◌, [], ◌∷◌, ◌++◌, length, decimal, IsTrue};
+ghost use Rattle.std.specs.Prelude.{◌≡◌, ◌↔◌, ◌+◌, ◌<◌, ◌≤◌, [], ◌∷◌, ◌++◌, length, decimal, cond, IsTrue};
 ghost use Rattle.std.specs.Bool.{OnTrue, OnFalse};
-ghost use Rattle.daggy_json.specs.declared.block.TheConstants.{CAPACITY};
+ghost use Rattle.daggy_json.specs.declared.block.TheConstants.{CAPACITY, LONGEST};
 
 use itoa::write_digits;
 use std::marker::Model;
 
 /// How many bytes a block has room for.
 const CAPACITY: usize = 4096;
+
+/// How many bytes a number takes at most, with the comma before it.
+const LONGEST: usize = 21;
 
 /// At most `CAPACITY` bytes. Contracts see them as a list.
 #[derive(Drop)]
@@ -83,42 +86,68 @@ impl Block {
         true
     }
 
-    /// Appends the digits of a number, written where they stay. Returns false, and leaves the block
-    /// unchanged, if there is no room for them.
-    #[inline]
-    pub(crate) fn push_decimal(&mut self, n: u64) -> bool
-        ensures fits { IsTrue result ↔ (length self.old + length (decimal n) ≤ CAPACITY) }
-        ensures pushed { OnTrue result (self.new ≡ self.old ++ decimal n) }
-        ensures full { OnFalse result (self.new ≡ self.old) }
+    /// Whether there is room for any number and the comma before it.
+    #[inline(always)]
+    pub(crate) fn has_room(&self) -> bool
+        ensures { IsTrue result ↔ (length self.now + LONGEST ≤ CAPACITY) }
     {
-        let end = self.len + count_digits(n);
-        if end > CAPACITY {
-            return false;
-        }
+        self.len <= CAPACITY - LONGEST
+    }
+
+    /// Appends a byte, after a comma if `comma`.
+    #[inline(always)]
+    pub(crate) fn push_after_comma(&mut self, comma: bool, byte: u8)
+        requires { length self.old + LONGEST ≤ CAPACITY }
+        ensures { self.new ≡ self.old ++ (cond comma (44 ∷ []) [] ++ byte ∷ []) }
+    {
+        // Where no comma is due, the byte is written over it.
+        self.bytes[self.len] = b',';
+        let at = self.len + usize::from(comma);
+        self.bytes[at] = byte;
+        self.len = at + 1;
+    }
+
+    /// Appends a number, after a comma if `comma`. The digits are written where they stay.
+    #[inline]
+    pub(crate) fn push_number(&mut self, comma: bool, n: u64)
+        requires { length self.old + LONGEST ≤ CAPACITY }
+        ensures { self.new ≡ self.old ++ (cond comma (44 ∷ []) [] ++ decimal n) }
+    {
+        // Where no comma is due, the first digit is written over it.
+        self.bytes[self.len] = b',';
+        let end = self.len + usize::from(comma) + count_digits(n);
         write_digits(n, &mut self.bytes, end);
         self.len = end;
-        true
     }
 }
 
-// The number of digits of a number.
+// The number of digits of a number below 1,000,000.
+#[inline]
+fn count_few_digits(n: u64) -> usize
+    requires { n < 1000000 }
+    ensures { result ≡ length (decimal n) }
+{
+    if n < 10_000 {
+        if n < 100 {
+            if n < 10 { 1 } else { 2 }
+        } else {
+            if n < 1000 { 3 } else { 4 }
+        }
+    } else {
+        if n < 100_000 { 5 } else { 6 }
+    }
+}
+
+// The number of digits of a number. Most indices are so small that nothing is divided.
 #[inline]
 fn count_digits(n: u64) -> usize
     ensures { result ≡ length (decimal n) }
 {
     let mut left = n;
-    let mut count = 1;
-    'digits: while left >= 10_000 {
-        left /= 10_000;
-        count += 4;
+    let mut count = 0;
+    'digits: while left >= 1_000_000 {
+        left /= 1_000_000;
+        count += 6;
     }
-    if left < 10 {
-        count
-    } else if left < 100 {
-        count + 1
-    } else if left < 1000 {
-        count + 2
-    } else {
-        count + 3
-    }
+    count + count_few_digits(left)
 }

@@ -12,7 +12,7 @@ use crate::text::TextWriter;
 use crate::values::write_weight;
 use daggy_base::index::{Direction, EdgeIndex, IndexType, NodeIndex};
 use daggy_base::store::Store;
-use daggy_walk::prefetch::touch_lists;
+use daggy_walk::prefetch::{PREFETCH_FROM, touch_lists};
 use json::Token;
 use serde_json::Value;
 use std::alloc::AllocError;
@@ -39,7 +39,7 @@ fn stream_entry<
     let Some(weight) = store.edge_weight(e) else {
         return out.token(Token::Null);
     };
-    out.token(Token::BeginArray);
+    out.begin_array();
     out.whole(ends.0.index());
     out.whole(ends.1.index());
     write_weight(fn_edge(weight), out);
@@ -60,7 +60,7 @@ fn stream_entries<
 {
     let bound = store.edge_bound();
     store.invariant();
-    out.token(Token::BeginArray);
+    out.begin_array();
     let mut i = 0;
     'edges: while i < bound {
         stream_entry(store, EdgeIndex::new(i), fn_edge, out);
@@ -75,7 +75,7 @@ fn stream_holes<W: Write, Ix: IndexType, S: Store<Ix>>(store: &S, out: &mut Text
         (AreTokensOf (wholes (holes_of (S.graph store.now)))) }
 {
     let bound = store.node_bound();
-    out.token(Token::BeginArray);
+    out.begin_array();
     let mut i = 0;
     'nodes: while i < bound {
         if !store.contains_node(NodeIndex::new(i)) {
@@ -99,7 +99,7 @@ fn stream_weights<
         (node_weights (S.graph store.now)))) }
 {
     let bound = store.node_bound();
-    out.token(Token::BeginArray);
+    out.begin_array();
     let mut i = 0;
     'nodes: while i < bound {
         if let Some(weight) = store.node_weight(NodeIndex::new(i)) {
@@ -122,7 +122,7 @@ fn stream_list<W: Write, Ix: IndexType, S: Store<Ix>>(
 {
     store.invariant();
     let end = EdgeIndex::<Ix>::end().index();
-    out.token(Token::BeginArray);
+    out.begin_array();
     let mut e = store.first_edge(n, dir);
     'edges: while e.index() != end {
         out.whole(e.index());
@@ -140,7 +140,7 @@ fn stream_row<W: Write, Ix: IndexType, S: Store<Ix>>(
     ensures { Writes W.contents out.old out.new
         (AreTokensOf (row_of (S.graph store.now) (Ix.number n))) }
 {
-    out.token(Token::BeginArray);
+    out.begin_array();
     stream_list(store, n, Direction::Outgoing, out);
     stream_list(store, n, Direction::Incoming, out);
     out.token(Token::EndArray);
@@ -181,11 +181,15 @@ fn stream_orders<W: Write, Ix: IndexType, S: Store<Ix>>(store: &S, out: &mut Tex
         (listed (map (row_of (S.graph store.now)) (node_identifiers (S.graph store.now))))) }
 {
     let bound = store.node_bound();
-    out.token(Token::BeginArray);
+    let is_large = store.edge_slots() >= PREFETCH_FROM;
+    out.begin_array();
     let mut i = 0;
     'nodes: while i < bound {
         // Never taken: this is a prefetch.
-        if i % AHEAD == 0 && !touch_nodes(store, i, bound.min(i.saturating_add(AHEAD))) {
+        if is_large
+            && i % AHEAD == 0
+            && !touch_nodes(store, i, bound.min(i.saturating_add(AHEAD)))
+        {
             return;
         }
         let n = NodeIndex::new(i);

@@ -1,13 +1,15 @@
 //! JSON text on its way to a writer, token by token.
-ghost use Rattle.std.specs.Prelude.{ℕ, List, Option, ◌≡◌, ◌<◌, ◌∷◌, ◌++◌, [], None, Some, false, true, cond, MatchResult, decimal, IfErr, Err};
+ghost use Rattle.std.specs.Prelude.{ℕ, List, Option, ◌≡◌, ◌<◌, ◌∷◌, ◌++◌, ◌+◌, ◌≤◌, [], None, Some, false, true, cond, length, MatchResult, IfErr, Err};
 ghost use Rattle.std.specs.Char.{digit_char};
 ghost use Rattle.std.specs.Io.KnownBytes.{Appends};
 ghost use Rattle.json.specs.Print.{begins as token_begins, ends as token_ends};
 ghost use Rattle.json.specs.Print.{escape_letter as letter_of, escape_byte, quoted, token_text, IsPrintable};
 ghost use Rattle.json.specs.Reads.{token_of};
+ghost use Rattle.json.specs.Token.{begin_array};
 ghost use Rattle.daggy_json.specs.Document.{whole};
 ghost use Rattle.daggy_json.specs.Streaming.{AppendsFront};
 ghost use Rattle.daggy_json.specs.Passing.{SendsBytes, HasFailed, StaysOn, Holds, Puts, Passes, Writes, AreTokensOf};
+ghost use Rattle.daggy_json.specs.declared.block.TheConstants.{CAPACITY, LONGEST};
 ghost use Rattle.daggy_json.specs.declared.error.StreamError.TheVariants.{Memory};
 
 use crate::block::Block;
@@ -124,6 +126,7 @@ impl<'a, W: Write> TextWriter<'a, W> {
     }
 
     // Writes what is in the block.
+    #[cold]
     fn flush(&mut self)
         ensures stays { StaysOn self.old self.new }
         ensures place { self.new.after_value ≡ self.old.after_value }
@@ -165,23 +168,15 @@ impl<'a, W: Write> TextWriter<'a, W> {
         }
     }
 
-    // The digits of a number.
-    #[inline]
-    fn put_decimal(&mut self, n: u64)
-        ensures { Puts W.contents self.old self.new (decimal n) }
+    // Makes room in the block for any number and the comma before it.
+    #[inline(always)]
+    fn make_room(&mut self)
+        ensures puts { Puts W.contents self.old self.new [] }
+        ensures room { length self.new.block + LONGEST ≤ CAPACITY }
     {
-        if !self.block.push_decimal(n) {
-            self.put_decimal_beyond(n);
+        if !self.block.has_room() {
+            self.flush();
         }
-    }
-
-    // Writes the digits of a number that do not fit into the block.
-    #[cold]
-    fn put_decimal_beyond(&mut self, n: u64)
-        ensures { Puts W.contents self.old self.new (decimal n) }
-    {
-        let mut digits = itoa::Buffer::new();
-        self.put_beyond(digits.format(n).as_bytes());
     }
 
     // A byte of a string.
@@ -256,14 +251,24 @@ impl<'a, W: Write> TextWriter<'a, W> {
         self.put_token(token);
     }
 
+    /// Begins an array, after a comma if it needs one.
+    #[inline(always)]
+    pub(crate) fn begin_array(&mut self)
+        ensures { Passes W.contents self.old self.new (begin_array ∷ []) }
+    {
+        self.make_room();
+        self.block.push_after_comma(self.after_value, b'[');
+        self.after_value = false;
+    }
+
     /// Writes a number that is not negative, after a comma if it needs one.
     #[inline]
     pub(crate) fn unsigned(&mut self, n: u64)
         ensures { Writes W.contents self.old self.new (AreTokensOf (whole n)) }
     {
-        self.put_comma();
+        self.make_room();
+        self.block.push_number(self.after_value, n);
         self.after_value = true;
-        self.put_decimal(n);
     }
 
     /// Writes an index.

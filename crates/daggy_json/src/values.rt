@@ -11,6 +11,7 @@ use serde_json::{Map, Number, Value};
 use std::alloc::AllocError;
 use std::io::Write;
 
+#[inline(never)]
 fn write_negative<W: Write>(n: i64, out: &mut TextWriter<'_, W>)
     requires { int_lt n (pos 0) ≡ true }
     ensures { Writes W.contents out.old out.new (AreTokensOf (number (negative n))) }
@@ -19,6 +20,7 @@ fn write_negative<W: Write>(n: i64, out: &mut TextWriter<'_, W>)
     out.token(Token::Number(digits.format(n)));
 }
 
+#[inline(never)]
 fn write_float<W: Write>(x: f64, out: &mut TextWriter<'_, W>)
     requires { IsTrue (float_is_finite x) }
     ensures { Writes W.contents out.old out.new (AreTokensOf (number (float x))) }
@@ -27,6 +29,8 @@ fn write_float<W: Write>(x: f64, out: &mut TextWriter<'_, W>)
     out.token(Token::Number(digits.format_finite_with_plus(x)));
 }
 
+// Writes a number. Only the case of whole numbers that are not negative is inlined.
+#[inline]
 fn write_number<W: Write>(n: &Number, out: &mut TextWriter<'_, W>)
     ensures { Writes W.contents out.old out.new (AreTokensOf (number (number_view n.now))) }
 {
@@ -60,7 +64,7 @@ pub(crate) fn write_value<W: Write>(value: &Value, out: &mut TextWriter<'_, W>)
 fn write_items<W: Write>(items: &Vec<Value>, out: &mut TextWriter<'_, W>)
     ensures { Writes W.contents out.old out.new (AreTokensOf (array (items_view items.now.items))) }
 {
-    out.token(Token::BeginArray);
+    out.begin_array();
     for item in items {
         write_value(item, out);
     }
@@ -81,6 +85,7 @@ fn write_members<W: Write>(members: &Map<String, Value>, out: &mut TextWriter<'_
 }
 
 /// Writes an encoded weight, or ends the text if its function failed.
+#[inline]
 pub(crate) fn write_weight<W: Write>(
     encoded: Result<Value, AllocError>,
     out: &mut TextWriter<'_, W>,
@@ -88,6 +93,8 @@ pub(crate) fn write_weight<W: Write>(
     ensures { Writes W.contents out.old out.new (AreTokensOfWeight encoded (HasFailed out.new)) }
 {
     match encoded {
+        // The case of most weights. It is inlined, so no value has to be made.
+        Ok(Value::Number(number)) => write_number(&number, out),
         Ok(value) => write_value(&value, out),
         Err(_) => {
             out.fail();

@@ -1,8 +1,8 @@
-use Rattle.std.proofs.Common.{◌≡◌, ◌+◌, ◌-◌, length, decimal}
+use Rattle.std.proofs.Common.{◌≡◌, ◌+◌, length, decimal}
 use Rattle.daggy_json.proofs.block.count_digits.Given as goal
 
 abbrev pub invariant-digits : goal.invariant-digits
-invariant-digits l = l.count + length (decimal l.left) ≡ length (decimal l.fn.n) + 1
+invariant-digits l = l.count + length (decimal l.left) ≡ length (decimal l.fn.n)
 
 abbrev pub decreases-digits : goal.decreases-digits
-decreases-digits l = l.left + 1 - 10000
+decreases-digits l = l.left

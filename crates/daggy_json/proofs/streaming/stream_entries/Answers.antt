@@ -40,8 +40,8 @@ returns g c =
     let Is = λ (o : Option (Edge g.row.S-EdgeWeight.Denot)) (us : List Token).
     AreTokensOfA (IsEntry (Encodes edge_as (HasFailed c.edges.out)) o) us in
     let end = at_bound _ _ _ c.edges.invariant.within c.edges-test.false c.edge_bound-bound.ensures in
-    let written = subst (λ k. Writes g.W.Write.contents c.token.new.self c.edges.out (Each Is (take k graph.edges)))
+    let written = subst (λ k. Writes g.W.Write.contents c.begin_array.new.self c.edges.out (Each Is (take k graph.edges)))
     end c.edges.invariant.written in
-    writes_array_of_values (IsEntry (Encodes edge_as (HasFailed c.token-2.new.self)))
-    (take (edge_bound graph) graph.edges) c.token.ensures
-    (entries_later edge_as (take (edge_bound graph) graph.edges) c.token-2.ensures.stays written) c.token-2.ensures
+    writes_array_of_values (IsEntry (Encodes edge_as (HasFailed c.token.new.self)))
+    (take (edge_bound graph) graph.edges) c.begin_array.ensures
+    (entries_later edge_as (take (edge_bound graph) graph.edges) c.token.ensures.stays written) c.token.ensures

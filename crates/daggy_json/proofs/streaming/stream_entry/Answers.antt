@@ -22,6 +22,6 @@ returns g c =
       parent = c.index.ensures.value;
       child = c.index-2.ensures.value;
       weight_is = c.in-Some-edge_weight.ensures;
-    }) c.token-2.ensures c.whole.ensures c.whole-2.ensures
+    }) c.begin_array.ensures c.whole.ensures c.whole-2.ensures
     (writes_weight g.G.Fn c.args.fn_edge.now c.in-Some-edge_weight.weight c.fn_edge.result c.fn_edge.ensures
-    c.write_weight.ensures) c.token-3.ensures
+    c.write_weight.ensures) c.token-2.ensures

@@ -34,13 +34,13 @@ nodes-preserved g c =
         | then-not-contains_node w ↦
             let none = slot_vacant slots c.new.ensures.number
             (λ h. false≢true (sym w.if-not-contains_node.true ∙ c.contains_node.ensures.exists.1 h)) in
-            subst (λ o. Writes g.W.Write.contents c.token.new.self o (Each IsHole later)) (sym w.out-is)
+            subst (λ o. Writes g.W.Write.contents c.begin_array.new.self o (Each IsHole later)) (sym w.out-is)
             (writes_more IsHole before c.nodes.i (vacant_passes c.nodes.i slots low (ap is_some none)) so_far
             w.whole.ensures)
         | else-not-contains_node w ↦
             let some = slot_filled slots c.new.ensures.number (c.contains_node.ensures.exists.0 w.if-not-contains_node.false) in
-            subst (λ o. Writes g.W.Write.contents c.token.new.self o (Each IsHole later)) (sym w.out-is)
-            (subst (λ l. Writes g.W.Write.contents c.token.new.self c.nodes.out (Each IsHole l))
+            subst (λ o. Writes g.W.Write.contents c.begin_array.new.self o (Each IsHole later)) (sym w.out-is)
+            (subst (λ l. Writes g.W.Write.contents c.begin_array.new.self c.nodes.out (Each IsHole l))
             (sym (vacant_skips c.nodes.i slots some)) so_far)
       ];
     }
@@ -49,6 +49,6 @@ pub returns : goal.returns
 returns g c =
     let graph = g.S.EdgeSource.graph c.args.store.now in
     let end = at_bound _ _ _ c.nodes.invariant.within c.nodes-test.false c.node_bound-bound.ensures.value in
-    writes_array_of whole (holes_of graph) c.token.ensures
-    (subst (λ k. Writes g.W.Write.contents c.token.new.self c.nodes.out (Each IsHole (vacant_from 0 (take k graph.nodes))))
-    end c.nodes.invariant.written) c.token-2.ensures
+    writes_array_of whole (holes_of graph) c.begin_array.ensures
+    (subst (λ k. Writes g.W.Write.contents c.begin_array.new.self c.nodes.out (Each IsHole (vacant_from 0 (take k graph.nodes))))
+    end c.nodes.invariant.written) c.token.ensures

@@ -13,7 +13,7 @@ IsEdge n us = AreTokensOf (whole n) us
 
 pub edges-init : goal.edges-init
 edges-init g c =
-    (0, record { within = omega arith; cursor = c.first_edge-e.ensures }, writes_none IsEdge c.token.new.self)
+    (0, record { within = omega arith; cursor = c.first_edge-e.ensures }, writes_none IsEdge c.begin_array.new.self)
 
 pub next_edge-e-requires : goal.next_edge-e-requires
 next_edge-e-requires g c =
@@ -43,6 +43,6 @@ returns g c =
     let at_end : g.Ix.IndexType.number c.edges.e ≡ g.Ix.IndexType.greatest = cc in
     let i = c.edges.invariant in
     let list = list_at c.args.dir (g.S.EdgeSource.graph c.args.store.now) (g.Ix.IndexType.number c.args.n) in
-    writes_array_of whole list c.token.ensures
-    (subst (λ l. Writes g.W.Write.contents c.token.new.self c.edges.out (Each IsEdge l))
-    (at_whole c.invariant.ensures.well_formed _ _ i.1 at_end) i.2) c.token-2.ensures
+    writes_array_of whole list c.begin_array.ensures
+    (subst (λ l. Writes g.W.Write.contents c.begin_array.new.self c.edges.out (Each IsEdge l))
+    (at_whole c.invariant.ensures.well_formed _ _ i.1 at_end) i.2) c.token.ensures

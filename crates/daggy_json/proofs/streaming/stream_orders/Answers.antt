@@ -45,13 +45,13 @@ nodes-preserved g c =
             let some = slot_some _ (slot_filled slots c.new-n.ensures.number (c.contains_node.ensures.exists.0 w.if-contains_node.true)) in
             let here = subst (λ n. Writes g.W.Write.contents c.nodes.out w.stream_row.new.out (Is n))
             c.new-n.ensures.number w.stream_row.ensures in
-            subst (λ o. Writes g.W.Write.contents c.token.new.self o (Each Is later)) (sym w.out-is)
+            subst (λ o. Writes g.W.Write.contents c.begin_array.new.self o (Each Is later)) (sym w.out-is)
             (writes_more Is before c.nodes.i (numbers_pass c.nodes.i slots some.0 some.1) so_far here)
         | else-contains_node w ↦
             let none = slot_vacant slots c.new-n.ensures.number
             (λ h. false≢true (sym w.if-contains_node.false ∙ c.contains_node.ensures.exists.1 h)) in
-            subst (λ o. Writes g.W.Write.contents c.token.new.self o (Each Is later)) (sym w.out-is)
-            (subst (λ l. Writes g.W.Write.contents c.token.new.self c.nodes.out (Each Is (map (λ p. p.0) l)))
+            subst (λ o. Writes g.W.Write.contents c.begin_array.new.self o (Each Is later)) (sym w.out-is)
+            (subst (λ l. Writes g.W.Write.contents c.begin_array.new.self c.nodes.out (Each Is (map (λ p. p.0) l)))
             (sym (numbered_skips c.nodes.i slots none)) so_far)
       ];
     }
@@ -62,6 +62,6 @@ returns g c =
     let Is = λ (n : ℕ) (us : List Token). AreTokensOf (row_of graph n) us in
     let end = at_bound _ _ _ c.nodes.invariant.within c.nodes-test.false c.node_bound-bound.ensures.value in
     let all = ap (λ k. numbered 0 (take k graph.nodes)) end ∙ numbered_bounded 0 graph.nodes in
-    writes_array_of (row_of graph) (node_identifiers graph) c.token.ensures
-    (subst (λ l. Writes g.W.Write.contents c.token.new.self c.nodes.out (Each Is (map (λ p. p.0) l))) all
-    c.nodes.invariant.written) c.token-2.ensures
+    writes_array_of (row_of graph) (node_identifiers graph) c.begin_array.ensures
+    (subst (λ l. Writes g.W.Write.contents c.begin_array.new.self c.nodes.out (Each Is (map (λ p. p.0) l))) all
+    c.nodes.invariant.written) c.token.ensures

@@ -7,5 +7,5 @@ pub returns : goal.returns
 returns g c =
     let graph = g.S.EdgeSource.graph c.args.store.now in
     let n = g.Ix.IndexType.number c.args.n in
-    writes_pair (wholes (out_list graph n)) (wholes (in_list graph n)) c.token.ensures c.stream_list.ensures
-    c.stream_list-2.ensures c.token-2.ensures
+    writes_pair (wholes (out_list graph n)) (wholes (in_list graph n)) c.begin_array.ensures c.stream_list.ensures
+    c.stream_list-2.ensures c.token.ensures

@@ -1,5 +1,5 @@
 use Rattle.std.specs.Option.{option_copied}
-use Rattle.std.proofs.Common.{◌+◌, List, map, take, ap, sym, subst, ◌∙◌, arith}
+use Rattle.std.proofs.Common.{List, map, take, ap, sym, subst, ◌∙◌, arith}
 use Rattle.json.specs.Token.{Token}
 use Rattle.daggy_base.specs.Graph.{slot}
 use Rattle.daggy_base.specs.Iterating.{numbered, node_weights}
@@ -53,7 +53,7 @@ returns g c =
     let end = at_bound _ _ _ c.nodes.invariant.within c.nodes-test.false c.node_bound-bound.ensures.value in
     let all = ap (λ k. map (λ p. p.1) (numbered 0 (take k graph.nodes))) end
     ∙ ap (map (λ p. p.1)) (numbered_bounded 0 graph.nodes) in
-    let written = subst (λ l. Writes g.W.Write.contents c.token.new.self c.nodes.out (Each Is l)) all
+    let written = subst (λ l. Writes g.W.Write.contents c.begin_array.new.self c.nodes.out (Each Is l)) all
     c.nodes.invariant.written in
-    writes_array_of_values (Encodes node_as (HasFailed c.token-2.new.self)) (node_weights graph) c.token.ensures
-    (weights_later node_as (node_weights graph) c.token-2.ensures.stays written) c.token-2.ensures
+    writes_array_of_values (Encodes node_as (HasFailed c.token.new.self)) (node_weights graph) c.begin_array.ensures
+    (weights_later node_as (node_weights graph) c.token.ensures.stays written) c.token.ensures

@@ -59,7 +59,7 @@ abbrev IsItem : Value → List Token → Type 0
 IsItem v us = AreTokensOf (view v) us
 
 pub write_items-loop-item-init : goal.write_items-loop-item-init
-write_items-loop-item-init g t c = writes_none IsItem c.token.new.self
+write_items-loop-item-init g t c = writes_none IsItem c.begin_array.new.self
 
 pub write_items-loop-item-preserved : goal.write_items-loop-item-preserved
 write_items-loop-item-preserved g t c =
@@ -76,8 +76,8 @@ write_items-returns g t c =
     let xs = c.deref-item-items.result.now in
     let all : take l.item-index xs ≡ xs = take_all l.item-index xs (omega arith) in
     let same : xs ≡ c.args.items.now.items = c.deref-item-items.ensures.value in
-    let written = subst (λ ys. Writes g.W.Write.contents c.token.new.self l.out (Each IsItem ys)) (all ∙ same) l.invariant in
-    writes_array_of view c.args.items.now.items c.token.ensures written c.token-2.ensures
+    let written = subst (λ ys. Writes g.W.Write.contents c.begin_array.new.self l.out (Each IsItem ys)) (all ∙ same) l.invariant in
+    writes_array_of view c.args.items.now.items c.begin_array.ensures written c.token.ensures
 
 pub write_members-loop-key-init : goal.write_members-loop-key-init
 write_members-loop-key-init g t c =

@@ -1,7 +1,7 @@
 use Rattle.std.proofs.Common.{decimal, refl, arith}
 use Rattle.json.specs.Token.{number}
 use Rattle.json.proofs.Printed.Decimals.{IsNumber-decimal}
-use Rattle.daggy_json.proofs.PassedTokens.{separator_begins, token_passes}
+use Rattle.daggy_json.proofs.PassedTokens.{token_passes_at_once}
 use Rattle.daggy_json.proofs.ValueTokens.{whole_tokens}
 use Rattle.daggy_json.proofs.text.TextWriter.unsigned.Goals as goal
 
@@ -10,6 +10,6 @@ returns g c =
     let t = number (decimal c.args.n) in (
       _,
       whole_tokens c.args.n (omega arith),
-      token_passes t (IsNumber-decimal c.args.n (omega arith)) (separator_begins c.args.self.now.after_value t refl) refl
-          c.put_comma.ensures c.put_decimal.ensures,
+      token_passes_at_once t (IsNumber-decimal c.args.n (omega arith)) refl refl c.make_room.ensures.puts
+          c.push_number.ensures,
     )
