@@ -8,11 +8,12 @@ ghost use Rattle.daggy_base.specs.Orders.{AreOrders, with_orders, numbers_of};
 ghost use Rattle.daggy_base.specs.State.{with_graph};
 ghost use Rattle.daggy_base.specs.declared.error.SlotsError.TheVariants.{Cycle};
 
-use crate::acyclic::{Acyclic, scratch_for};
+use crate::acyclic::Acyclic;
 use daggy_base::error::SlotsError;
 use daggy_base::index::{EdgeIndex, IndexType, NodeIndex};
 use daggy_base::store::Store;
 use daggy_guard::packed::sorted_order;
+use daggy_search::Scratch;
 use std::alloc::Global;
 
 impl<N: Drop, E: Drop, Ix: IndexType, S> Acyclic<N, E, Ix, S>
@@ -51,7 +52,8 @@ where
         let Ok(mut store) = S::from_slots(alloc, nodes, edges) else {
             return Err(SlotsError::Memory);
         };
-        let Ok(mut scratch) = scratch_for(alloc, store.node_slots()) else {
+        let mut scratch = Scratch::new(alloc);
+        let Ok(()) = scratch.reserve(store.node_slots(), 0) else {
             return Err(SlotsError::Memory);
         };
         match sorted_order(alloc, &mut store, &mut scratch) {

@@ -12,7 +12,7 @@ sorted_order-requires g c =
       arith,
       bound_low (g.S.EdgeSource.graph c.in-Ok.store).nodes,
       c.node_slots.ensures,
-      c.in-Ok-scratch_for.ensures,
+      c.in-Ok-reserve.ensures.ok.0,
     )
 
 -- what holds of what was found
@@ -25,9 +25,9 @@ missed {A} {B} o is h = subst (λ (z : Option A). IfNone z B) is h
 pub from_parts-requires : goal.from_parts-requires
 from_parts-requires g c =
     let low = bound_low (g.S.EdgeSource.graph c.in-Ok.store).nodes in
-    let fits : node_bound (g.S.EdgeSource.graph c.in-Ok.store) ≤ c.in-Ok-scratch_for.scratch.nodes =
-    omega (arith, low, c.node_slots.ensures, c.in-Ok-scratch_for.ensures) in
-    let capacity : c.sorted_order.new.scratch.nodes ≡ c.in-Ok-scratch_for.scratch.nodes =
+    let fits : node_bound (g.S.EdgeSource.graph c.in-Ok.store) ≤ c.reserve.new.self.nodes =
+    omega (arith, low, c.node_slots.ensures, c.in-Ok-reserve.ensures.ok.0) in
+    let capacity : c.sorted_order.new.scratch.nodes ≡ c.reserve.new.self.nodes =
     ap (λ (z : Room _). z.nodes) c.sorted_order.ensures.same_capacity in
     let ordered =
     found _ c.in-Ok-Some.field-0 c.in-Ok-Some.order c.in-Ok-Some.field-0-is c.in-Ok-Some.ensures.ordered in
