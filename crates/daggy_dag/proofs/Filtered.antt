@@ -5,7 +5,7 @@ use Rattle.std.specs.List.{filter_map}
 use Rattle.std.specs.Borrow.{Bor}
 use Rattle.std.proofs.lemmas.Option.{same_Some, none-some}
 use Rattle.std.proofs.lemmas.List.{length_push}
-use Rattle.daggy_base.specs.Graph.{Graph, Edge, HasNode, empty, edge_at, slot, node_bound}
+use Rattle.daggy_base.specs.Graph.{Graph, Edge, HasNode, empty, edge_at, slot}
 use Rattle.daggy_base.specs.Path.{AreJoined}
 use Rattle.daggy_base.specs.Adding.{with_slot_filled, next_slot, remaining_vacant, with_node, next_node}
 use Rattle.daggy_base.proofs.PathsWithNode.{bound_low}
@@ -14,7 +14,7 @@ use Rattle.daggy_base.specs.Filtering.{with_kept_node, named, with_kept_edge, bo
 use Rattle.daggy_base.specs.Filtering.{FiltersEdges, IsFiltered}
 use Rattle.daggy_base.specs.Ordered.{IsOrderOf}
 use Rattle.daggy_order.proofs.OrderLaws.{HasEnds, order_named, some_is}
-use Rattle.daggy_dag.proofs.OrderKept.{order_below}
+use Rattle.daggy_dag.proofs.OrderKept.{IsKept, order_below}
 
 module _ {V W : Type 0} where
   -- where no slot is vacant, a node goes behind the others
@@ -365,27 +365,29 @@ module _ {N E V W F G I : Type 0} {of : ℕ → I} {step_f : F → I → Bor N �
     pub names_many : length names ≡ length old.nodes
     names_many = ap length (sym same) ∙ names_long step_f of old.nodes start filtered.nodes
 
-    pub names_cover : {order copy : List ℕ}
-        → copy ≡ order → IsOrderOf old order → (n : ℕ) → Contains copy n → n < length names
-    names_cover {order} {copy} is ord = order_below old order copy (length names) names_many is ord
+    pub names_cover : (order : List ℕ) → IsOrderOf old order → (n : ℕ) → Contains order n → n < length names
+    names_cover order ord = order_below old order (length names) names_many ord
 
-    pub order_renamed : {order copy left : List ℕ}
-        → copy ≡ order → left ≡ filter_map (slot names) copy → IsOrderOf old order → IsOrderOf new left
-    order_renamed {order} {copy} {left} is named_so ord =
+    order_renamed : (order left : List ℕ)
+        → left ≡ filter_map (slot names) order → IsOrderOf old order → IsOrderOf new left
+    order_renamed order left named_so ord =
         let P : List ℕ → Type 0 = λ z. IsOrderOf new z in
         let whole : left ≡ filter_map (slot filtered.names) order =
-        named_so ∙ (ap (λ z. filter_map (slot z) copy) (sym same) ∙ ap (filter_map (slot filtered.names)) is) in
+        named_so ∙ ap (λ z. filter_map (slot z) order) (sym same) in
         subst P (sym whole) (order_named order ord ends_named (slot filtered.names) (λ u v k p q.
         one_name step_f of old.nodes start filtered.nodes u v p q) has_node was_joined)
 
-  pub fits_filtered : {slots : ℕ} (capacity : ℕ) → slots ≡ length old.nodes → slots ≤ capacity → node_bound new ≤
-      capacity
-  fits_filtered capacity many fits =
+    -- an order whose nodes got their new names is one of the new graph, and room for the old slots
+    -- is enough
+    pub kept_renamed : (order left : List ℕ) (capacity : ℕ) → left ≡ filter_map (slot names) order
+        → IsOrderOf old order → length old.nodes ≤ capacity → IsKept new left capacity
+    kept_renamed order left capacity named_so ord fits = (
+      order_renamed order left named_so ord,
       omega (
         arith,
         bound_low new.nodes,
         ap length (same_nodes step_g of filtered.names g 0 old.edges filtered.middle new filtered.edges),
         few_nodes step_f of old.nodes start filtered.nodes,
-        many,
         fits,
-      )
+      ),
+    )

@@ -14,6 +14,7 @@ use Rattle.daggy_base.specs.FilteringInPlace.{KeepsSlots, if_ends_exist, IsFilte
 use Rattle.daggy_base.specs.Mapping.{weight_in, with_weight}
 use Rattle.daggy_base.specs.Ordered.{IsOrderOf}
 use Rattle.daggy_order.proofs.OrderLaws.{ends_exist, order_filtered, some_is}
+use Rattle.daggy_dag.proofs.OrderKept.{IsKept}
 
 given : {V B : Type 0} (h : V → B) (r : Option V) (y : B) → option_map h r ≡ Some y → (v : V) × (h v ≡ y)
 given h None y at = absurd (none-some y at)
@@ -86,24 +87,29 @@ module _ {N E V W F G I : Type 0} {of : ℕ → I} {step_f : F → I → Bor N �
       let P : Option N → Type 0 = λ z. IsSome z in
       subst P (sym (taken_slot _ old.nodes n m.0 m.2)) refl
 
-  pub order_kept : {end : ℕ} {order copy left : List ℕ} → IsWellFormed end new → copy ≡ order
-      → left ≡ filter (λ n. is_some (node_weight new n)) copy → IsOrderOf old order → IsOrderOf new left
-  order_kept {end} {order} w same is ord =
+  order_kept : {end : ℕ} (order left : List ℕ) → IsWellFormed end new
+      → left ≡ filter (λ n. is_some (node_weight new n)) order → IsOrderOf old order → IsOrderOf new left
+  order_kept {end} order left w is ord =
       let P : List ℕ → Type 0 = λ z. IsOrderOf new z in
       let test : ℕ → Bool = λ n. is_some (node_weight new n) in
-      subst P (sym (is ∙ ap (filter test) same))
+      subst P (sym is)
       (order_filtered order ord (ends_exist w) test (λ n. (λ h. (was_there n h, h), λ h. h.1)) joined_before)
 
-  pub fits_kept : {slots : ℕ} (capacity : ℕ) → slots ≡ length old.nodes → slots ≤ capacity → node_bound new ≤ capacity
-  fits_kept capacity many fits =
-      omega (
-        arith,
-        ap (λ (z : Graph V W). node_bound z) filtered.is,
-        bound_low filtered.nodes,
-        kept_length step_f of (λ w. w) (λ w v. v) f 0 (take (node_bound old) old.nodes) filtered.nodes
-            filtered.keeps_nodes,
-        length-take-le (node_bound old) old.nodes (bound_low old.nodes),
-        bound_low old.nodes,
-        many,
-        fits,
-      )
+  -- the nodes of an order that exist in the new graph are in order there, and room for the old slots
+  -- is enough
+  pub kept_in_place : {end : ℕ} (order left : List ℕ) (capacity : ℕ) → IsWellFormed end new
+      → left ≡ filter (λ n. is_some (node_weight new n)) order → IsOrderOf old order
+      → length old.nodes ≤ capacity → IsKept new left capacity
+  kept_in_place order left capacity w is ord fits = (
+    order_kept order left w is ord,
+    omega (
+      arith,
+      ap (λ (z : Graph V W). node_bound z) filtered.is,
+      bound_low filtered.nodes,
+      kept_length step_f of (λ w. w) (λ w v. v) f 0 (take (node_bound old) old.nodes) filtered.nodes
+          filtered.keeps_nodes,
+      length-take-le (node_bound old) old.nodes (bound_low old.nodes),
+      bound_low old.nodes,
+      fits,
+    ),
+  )

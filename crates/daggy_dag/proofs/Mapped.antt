@@ -3,7 +3,7 @@ use Rattle.std.proofs.Common.{◌≡◌, ℕ, zero, suc, ◌+◌, ◌≤◌, ◌
 use Rattle.std.proofs.Common.{is_some, refl, sym, ap, subst, ◌∙◌, arith, Result, Ok, Err, MatchResult, IfOk}
 use Rattle.std.specs.Borrow.{Bor}
 use Rattle.std.proofs.lemmas.Option.{same_Some, none-some}
-use Rattle.daggy_base.specs.Graph.{Graph, Edge, slot, bound_of, bound_step, node_bound}
+use Rattle.daggy_base.specs.Graph.{Graph, Edge, slot, bound_of, bound_step}
 use Rattle.daggy_base.specs.Path.{AreJoined, IsAcyclic}
 use Rattle.daggy_base.specs.State.{State}
 use Rattle.daggy_base.specs.Copying.{clone_step, IsCopy}
@@ -15,6 +15,7 @@ use Rattle.daggy_reduction.specs.Comparison.{HaveSameNodes, HaveSameReachability
 use Rattle.daggy_reduction.proofs.Canonical.{reach_same}
 use Rattle.daggy_base.specs.Ordered.{IsOrderOf}
 use Rattle.daggy_order.proofs.OrderLaws.{order_fewer}
+use Rattle.daggy_dag.proofs.OrderKept.{IsKept}
 
 module _ {F I W V A B : Type 0} (step : F → I → Bor W → V → F → Type 0) (of : ℕ → I) (weight : A → W)
     (with : A → V → B) where
@@ -102,21 +103,19 @@ same_nodes step of weight with f xs new mapped n =
 module _ {N E V W F G I : Type 0} (of : ℕ → I) (step_f : F → I → Bor N → V → F → Type 0)
     (step_g : G → I → Bor E → W → G → Type 0) (f : F) (g : G) (old : Graph N E) (new : Graph V W)
     (mapped : IsMapped of step_f step_g f g old new) where
-  pub order_mapped : {order copy : List ℕ} → copy ≡ order → IsOrderOf old order → IsOrderOf new copy
-  order_mapped {order} same ord =
-      subst (IsOrderOf new) (sym same)
-      (order_fewer order ord (same_nodes step_f of (λ w. w) (λ w v. v) f old.nodes new.nodes mapped.nodes)
-      (joined_reweighed of step_g g old new mapped.edges))
-
-  pub fits_mapped : {slots : ℕ} (capacity : ℕ) → slots ≡ length old.nodes → slots ≤ capacity → node_bound new ≤ capacity
-  fits_mapped capacity many fits =
-      omega (
-        arith,
-        bound_low new.nodes,
-        mapped_length step_f of (λ w. w) (λ w v. v) f 0 old.nodes new.nodes mapped.nodes,
-        many,
-        fits,
-      )
+  -- an order of the old graph is one of the new graph, and room for the old slots is enough
+  pub kept_mapped : (order : List ℕ) (capacity : ℕ)
+      → IsOrderOf old order → length old.nodes ≤ capacity → IsKept new order capacity
+  kept_mapped order capacity ord fits = (
+    order_fewer order ord (same_nodes step_f of (λ w. w) (λ w v. v) f old.nodes new.nodes mapped.nodes)
+        (joined_reweighed of step_g g old new mapped.edges),
+    omega (
+      arith,
+      bound_low new.nodes,
+      mapped_length step_f of (λ w. w) (λ w v. v) f 0 old.nodes new.nodes mapped.nodes,
+      fits,
+    ),
+  )
 
   pub nodes_mapped : HaveSameNodes old new
   nodes_mapped n = let same = same_nodes step_f of (λ w. w) (λ w v. v) f old.nodes new.nodes mapped.nodes n in

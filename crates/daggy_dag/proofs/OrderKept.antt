@@ -1,6 +1,6 @@
 -- What a dag keeps of its graph: an order of its nodes, and room for its searches.
 use Rattle.std.proofs.Common.{◌≡◌, ℕ, ◌<◌, ◌≤◌, List, [], length, Contains, sym, ap, subst, arith}
-use Rattle.daggy_base.specs.Graph.{Graph, HasNode, empty, node_bound}
+use Rattle.daggy_base.specs.Graph.{Graph, empty, node_bound}
 use Rattle.daggy_base.specs.Removal.{without_all_edges}
 use Rattle.daggy_base.specs.State.{State}
 use Rattle.daggy_base.proofs.PathsWithNode.{bound_low}
@@ -42,9 +42,7 @@ kept_copied {N} {E} {order} {copy} capacity {old} {new} looks is same many fits 
     (subst (IsOrderOf old) (sym same) ord, omega (arith, bound_low old.nodes, many, fits))
 
 -- each node of the order is below the number of slots
-pub order_below : {N E : Type 0} (g : Graph N E) (order copy : List ℕ) (slots : ℕ)
-    → slots ≡ length g.nodes → copy ≡ order → IsOrderOf g order → (n : ℕ) → Contains copy n → n < slots
-order_below g order copy slots many same ord n h =
-    let P : List ℕ → Type 0 = λ z. Contains z n in
-    let there : HasNode g n = (ord.exact n).0 (subst P same h) in
-    omega (arith, many, below_bound g.nodes n there, bound_low g.nodes)
+pub order_below : {N E : Type 0} (g : Graph N E) (order : List ℕ) (slots : ℕ)
+    → slots ≡ length g.nodes → IsOrderOf g order → (n : ℕ) → Contains order n → n < slots
+order_below g order slots many ord n h =
+    omega (arith, many, below_bound g.nodes n ((ord.exact n).0 h), bound_low g.nodes)

@@ -34,7 +34,7 @@ use daggy_guard::guard::Guarded;
 use daggy_order::order::Order;
 use daggy_search::Scratch;
 use daggy_stable::stable_graph::StableDiGraph;
-use std::alloc::Global;
+use std::alloc::{AllocError, Global};
 use std::marker::{Model, PhantomData};
 
 mod compact;
@@ -107,6 +107,15 @@ pub type Dag<N, E, Ix = DefaultIx> = Acyclic<N, E, Ix, DiGraph<N, E, Ix>>;
 /// ```
 pub type StableDag<N, E, Ix = DefaultIx> = Acyclic<N, E, Ix, StableDiGraph<N, E, Ix>>;
 
+// Scratch for searches of graphs with this many slots of nodes.
+fn scratch_for<Ix: IndexType>(alloc: Global, slots: usize) -> Result<Scratch<Ix>, AllocError>
+    ensures { IfOk result (λ scratch. slots ≤ scratch.nodes) }
+{
+    let mut scratch = Scratch::new(alloc);
+    scratch.reserve(slots, 0)?;
+    Ok(scratch)
+}
+
 impl<N, E, Ix: IndexType, S> Model for Acyclic<N, E, Ix, S>
 where
     S: Store<Ix, NodeWeight = N, EdgeWeight = E>,
@@ -145,6 +154,17 @@ where
             node_weight: PhantomData,
             edge_weight: PhantomData,
         }
+    }
+
+    // An order of its nodes, and scratch that fits searches of any graph with as many slots of nodes:
+    // what a copy of it, or of a part of it, has beside its store.
+    fn copy_order(&self) -> Result<(Order<Ix>, Scratch<Ix>), AllocError>
+        ensures ordered { IfOk result (λ parts. IsOrderOf self.now.graph parts.0) }
+        ensures fits { IfOk result (λ parts. length self.now.graph.nodes ≤ parts.1.nodes) }
+    {
+        let scratch = scratch_for(self.allocator(), self.guarded.store.node_slots())?;
+        let order = self.guarded.order.try_clone()?;
+        Ok((order, scratch))
     }
 
     /// How many nodes there are.

@@ -18,10 +18,8 @@ impl<N: Clone + Drop, E: Clone + Drop, Ix: IndexType> Clone
         IsCopy N.is_clone E.is_clone d.graph copy.graph × (copy.looks ≡ 0) };
 
     fn clone(&self) -> Result<Self, AllocError> {
-        let mut scratch = Scratch::new(self.guarded.scratch.allocator());
-        scratch.reserve(self.guarded.store.node_count(), 0)?;
-        let order = self.guarded.order.try_clone()?;
-        let store = self.guarded.store.clone()?;
+        let (order, scratch) = self.copy_order()?;
+        let store = self.graph().clone()?;
         Ok(Acyclic::from_parts(store, order, scratch))
     }
 }

@@ -8,8 +8,8 @@ ghost use Rattle.daggy_base.specs.Filtering.{IsFiltered, ListsDescend, HaveSameE
 
 use crate::acyclic::{Acyclic, Dag};
 use daggy_base::index::{EdgeIndex, IndexType, NodeIndex};
+use daggy_base::store::Store;
 use daggy_graph::graph::DiGraph;
-use daggy_search::Scratch;
 use std::alloc::AllocError;
 
 impl<N: Drop, E: Drop, Ix: IndexType> Acyclic<N, E, Ix, DiGraph<N, E, Ix>> {
@@ -36,10 +36,8 @@ impl<N: Drop, E: Drop, Ix: IndexType> Acyclic<N, E, Ix, DiGraph<N, E, Ix>> {
         ensures acyclic { IfOk result (λ d. IsAcyclic d.graph) }
         ensures looks { IfOk result (λ d. d.looks ≡ 0) }
     {
-        let mut scratch = Scratch::new(self.guarded.scratch.allocator());
-        scratch.reserve(self.guarded.store.node_count(), 0)?;
-        let order = self.guarded.order.try_clone()?;
-        let store = self.guarded.store.map(f, g)?;
+        let (order, scratch) = self.copy_order()?;
+        let store = self.graph().map(f, g)?;
         Ok(Acyclic::from_parts(store, order, scratch))
     }
 
@@ -74,10 +72,10 @@ impl<N: Drop, E: Drop, Ix: IndexType> Acyclic<N, E, Ix, DiGraph<N, E, Ix>> {
         ensures acyclic { IfOk result (λ d. IsAcyclic d.graph) }
         ensures looks { IfOk result (λ d. d.looks ≡ 0) }
     {
-        let mut scratch = Scratch::new(self.guarded.scratch.allocator());
-        scratch.reserve(self.guarded.store.node_count(), 0)?;
-        let mut order = self.guarded.order.try_clone()?;
-        let (store, names) = self.guarded.store.filter_map_named(f, g)?;
+        let graph = self.graph();
+        graph.invariant();
+        let (mut order, scratch) = self.copy_order()?;
+        let (store, names) = graph.filter_map_named(f, g)?;
         order.rename_all(names.as_slice());
         Ok(Acyclic::from_parts(store, order, scratch))
     }

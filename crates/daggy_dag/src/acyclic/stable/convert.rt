@@ -3,7 +3,7 @@ ghost use Rattle.std.specs.Prelude.{◌≡◌, ◌≤◌, IfOk, IfErr};
 ghost use Rattle.daggy_base.specs.Graph.{IsCompact};
 ghost use Rattle.daggy_base.specs.Path.{IsAcyclic};
 
-use crate::acyclic::{Acyclic, Dag};
+use crate::acyclic::{Acyclic, Dag, scratch_for};
 use crate::slot_capacity::Room;
 use daggy_base::index::IndexType;
 use daggy_search::Scratch;
@@ -19,8 +19,7 @@ fn room_for<N: Drop, E: Drop, Ix: IndexType>(
     ensures searches { IfOk result (λ taken. nodes ≤ taken.0.nodes) }
     ensures graph { IfOk result (λ taken. taken.1 ≡ record { nodes = nodes; edges = edges }) }
 {
-    let mut scratch = Scratch::new(alloc);
-    scratch.reserve(nodes, 0)?;
+    let scratch = scratch_for(alloc, nodes)?;
     let room = Room::new(alloc, nodes, edges)?;
     Ok((scratch, room))
 }

@@ -12,7 +12,6 @@ use crate::acyclic::{Acyclic, StableDag};
 use daggy_base::index::{EdgeIndex, IndexType, NodeIndex};
 use daggy_base::store::Store;
 use daggy_order::order::Order;
-use daggy_search::Scratch;
 use daggy_stable::stable_graph::StableDiGraph;
 use std::alloc::AllocError;
 
@@ -54,11 +53,8 @@ impl<N: Drop, E: Drop, Ix: IndexType> Acyclic<N, E, Ix, StableDiGraph<N, E, Ix>>
         ensures acyclic { IfOk result (λ d. IsAcyclic d.graph) }
         ensures looks { IfOk result (λ d. d.looks ≡ 0) }
     {
-        self.guarded.store.invariant();
-        let mut scratch = Scratch::new(self.guarded.scratch.allocator());
-        scratch.reserve(self.guarded.store.node_slots(), 0)?;
-        let order = self.guarded.order.try_clone()?;
-        let store = self.guarded.store.map(f, g)?;
+        let (order, scratch) = self.copy_order()?;
+        let store = self.graph().map(f, g)?;
         Ok(Acyclic::from_parts(store, order, scratch))
     }
 
@@ -90,14 +86,12 @@ impl<N: Drop, E: Drop, Ix: IndexType> Acyclic<N, E, Ix, StableDiGraph<N, E, Ix>>
         ensures acyclic { IfOk result (λ d. IsAcyclic d.graph) }
         ensures looks { IfOk result (λ d. d.looks ≡ 0) }
     {
-        self.guarded.store.invariant();
-        let mut scratch = Scratch::new(self.guarded.scratch.allocator());
-        let slots = self.guarded.store.node_slots();
-        scratch.reserve(slots, 0)?;
-        let mut order = self.guarded.order.try_clone()?;
-        let store = self.guarded.store.filter_map(f, g)?;
+        let graph = self.graph();
+        graph.invariant();
+        let (mut order, scratch) = self.copy_order()?;
+        let store = graph.filter_map(f, g)?;
         store.invariant();
-        keep_existing(&store, &mut order, slots);
+        keep_existing(&store, &mut order, graph.node_slots());
         Ok(Acyclic::from_parts(store, order, scratch))
     }
 }
