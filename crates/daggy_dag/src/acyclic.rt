@@ -158,7 +158,7 @@ where
 
     // An order of its nodes, and scratch that fits searches of any graph with as many slots of nodes:
     // what a copy of it, or of a part of it, has beside its store.
-    fn copy_order(&self) -> Result<(Order<Ix>, Scratch<Ix>), AllocError>
+    fn copied_parts(&self) -> Result<(Order<Ix>, Scratch<Ix>), AllocError>
         ensures ordered { IfOk result (λ parts. IsOrderOf self.now.graph parts.0) }
         ensures fits { IfOk result (λ parts. length self.now.graph.nodes ≤ parts.1.nodes) }
     {

@@ -269,6 +269,27 @@ impl<Ix: IndexType> LabeledList<Ix> {
         }
     }
 
+    /// Puts the only node of a tail first, within the capacity. Returns the empty tail that is left,
+    /// which may grow within the capacity.
+    pub fn link_first(&mut self, tail: Tail) -> Tail
+        requires tailed { IsTailed Ix.greatest self.old.nodes self.old.capacity tail.from tail.count
+            tail.index_bound }
+        requires one { tail.count ≡ 1 }
+        ensures nodes { self.new.nodes ≡ tail.from ∷ self.old.nodes }
+        ensures from { result.from ≡ tail.from + 1 }
+        ensures count { result.count ≡ 0 }
+        ensures index_bound { result.index_bound ≡ self.new.capacity }
+    {
+        let from = tail.from + 1;
+        self.links.use_memory(from);
+        put_first(&mut self.links, Link::new(tail.from));
+        Tail {
+            from,
+            count: 0,
+            index_bound: self.links.capacity(),
+        }
+    }
+
     #[inline(never)]
     fn link_tail(&mut self, tail: Tail)
         requires some { 0 < tail.count }

@@ -228,6 +228,11 @@ impl<Ix: IndexType> Order<Ix> {
         requires { Contains self.old (Ix.number n) }
         ensures { self.new ≡ Ix.number n ∷ without (Ix.number n) self.old }
     {
+        if self.tail.count == 1 && n.index() == self.tail.from {
+            // It is not linked yet, so it need not be linked last first.
+            self.tail = self.list.link_first(self.tail);
+            return;
+        }
         self.tail = self.list.flush(self.tail);
         self.list.move_first(n);
     }

@@ -101,6 +101,20 @@ impl<Ix: IndexType> Scratch<Ix> {
         ensures succeeds { node_bound ≤ self.old.nodes → edge_bound ≤ self.old.edges → IsOk result }
         ensures rows_kept { self.new.rows ≡ self.old.rows }
     {
+        if self.fits(node_bound, edge_bound) {
+            return Ok(());
+        }
+        self.grow(node_bound, edge_bound)
+    }
+
+    // Out of line, to keep what adds a node small where it is inlined.
+    #[cold]
+    #[inline(never)]
+    fn grow(&mut self, node_bound: usize, edge_bound: usize) -> Result<(), AllocError>
+        ensures ok { OnOk result ((node_bound ≤ self.new.nodes) × (edge_bound ≤ self.new.edges)) }
+        ensures kept { (self.old.nodes ≤ self.new.nodes) × (self.old.edges ≤ self.new.edges) }
+        ensures rows_kept { self.new.rows ≡ self.old.rows }
+    {
         if self.work.len() < node_bound {
             self.work.grow(node_bound)?;
         }

@@ -36,7 +36,7 @@ impl<N: Drop, E: Drop, Ix: IndexType> Acyclic<N, E, Ix, DiGraph<N, E, Ix>> {
         ensures acyclic { IfOk result (λ d. IsAcyclic d.graph) }
         ensures looks { IfOk result (λ d. d.looks ≡ 0) }
     {
-        let (order, scratch) = self.copy_order()?;
+        let (order, scratch) = self.copied_parts()?;
         let store = self.graph().map(f, g)?;
         Ok(Acyclic::from_parts(store, order, scratch))
     }
@@ -74,7 +74,7 @@ impl<N: Drop, E: Drop, Ix: IndexType> Acyclic<N, E, Ix, DiGraph<N, E, Ix>> {
     {
         let graph = self.graph();
         graph.invariant();
-        let (mut order, scratch) = self.copy_order()?;
+        let (mut order, scratch) = self.copied_parts()?;
         let (store, names) = graph.filter_map_named(f, g)?;
         order.rename_all(names.as_slice());
         Ok(Acyclic::from_parts(store, order, scratch))

@@ -18,7 +18,7 @@ impl<N: Clone + Drop, E: Clone + Drop, Ix: IndexType> Clone
         IsCopy N.is_clone E.is_clone d.graph copy.graph × (copy.looks ≡ 0) };
 
     fn clone(&self) -> Result<Self, AllocError> {
-        let (order, scratch) = self.copy_order()?;
+        let (order, scratch) = self.copied_parts()?;
         let store = self.graph().clone()?;
         Ok(Acyclic::from_parts(store, order, scratch))
     }

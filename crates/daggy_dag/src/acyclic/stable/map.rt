@@ -53,7 +53,7 @@ impl<N: Drop, E: Drop, Ix: IndexType> Acyclic<N, E, Ix, StableDiGraph<N, E, Ix>>
         ensures acyclic { IfOk result (λ d. IsAcyclic d.graph) }
         ensures looks { IfOk result (λ d. d.looks ≡ 0) }
     {
-        let (order, scratch) = self.copy_order()?;
+        let (order, scratch) = self.copied_parts()?;
         let store = self.graph().map(f, g)?;
         Ok(Acyclic::from_parts(store, order, scratch))
     }
@@ -88,7 +88,7 @@ impl<N: Drop, E: Drop, Ix: IndexType> Acyclic<N, E, Ix, StableDiGraph<N, E, Ix>>
     {
         let graph = self.graph();
         graph.invariant();
-        let (mut order, scratch) = self.copy_order()?;
+        let (mut order, scratch) = self.copied_parts()?;
         let store = graph.filter_map(f, g)?;
         store.invariant();
         keep_existing(&store, &mut order, graph.node_slots());

@@ -91,9 +91,10 @@ steps-preserved-then-index-end g c =
       pops c.contains_node.ensures.well_formed c.steps.invariant.0 at_end c.node.result
           (ap (λ k. take k c.steps.work.nodes) up ∙ take_more c.steps.work.nodes (c.steps.len - 1) c.node.result low
           ∙ ap (λ z. take (c.steps.len - 1) c.steps.work.nodes ++ z ∷ []) (sym (c.node.ensures _)))
-          (c.first-e-then-index-end.ensures
-          ∙ ap (λ n. first_of g.Ix.IndexType.greatest (out_list (g.S.EdgeSource.graph c.steps.source) n))
-          c.node-then-index-end.ensures.value),
+          (◌∙◌ {b = first_of g.Ix.IndexType.greatest (out_list (g.S.EdgeSource.graph c.steps.source)
+          (g.Ix.IndexType.number c.node-then-index-end.result))} c.first-e-then-index-end.ensures
+          (ap (λ n. first_of g.Ix.IndexType.greatest (out_list (g.S.EdgeSource.graph c.steps.source) n))
+          c.node-then-index-end.ensures.value)),
       omega (arith, c.steps.invariant.1),
     )
 

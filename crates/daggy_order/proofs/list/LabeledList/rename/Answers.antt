@@ -1,10 +1,9 @@
-use Rattle.std.proofs.Common.{◌≡◌, ◌≢◌, ◌<◌, ℕ, List, ◌∷◌, ◌++◌, length, map, get_or, set, refl, sym, ap, subst, inl, inr}
+use Rattle.std.proofs.Common.{◌≡◌, ◌≢◌, ◌<◌, ℕ, List, length, map, get_or, set, refl, sym, ap, subst}
 use Rattle.std.proofs.Common.{◌∙◌, arith}
-use Rattle.std.specs.List.{Contains}
 use Rattle.std.proofs.lemmas.List.{length-set}
 use Rattle.daggy_base.specs.Removal.{renamed}
 use Rattle.daggy_base.proofs.Lists.{Mem, mem_left, mem_right, contains_mem, mem_contains, split_at}
-use Rattle.daggy_order.specs.Links.{Listed, Stored, IsLabelled}
+use Rattle.daggy_order.specs.Links.{Listed, Stored}
 use Rattle.daggy_order.proofs.Labelled.{label_within, label_once, labelled_renamed, renamed_mid}
 use Rattle.daggy_order.proofs.list.LabeledList.rename.Given.{Over}
 use Rattle.daggy_order.proofs.list.LabeledList.rename.Goals.{After-self, After-rename, After-set_label-2}

@@ -1,7 +1,7 @@
 use Rattle.std.proofs.Common.{ℕ, List, length, sym, ap, subst, ◌∙◌, arith}
 use Rattle.daggy_base.specs.Ordered.{IsOrderOf}
 use Rattle.daggy_guard.proofs.GuardedChange.{same_graph}
-use Rattle.daggy_dag.proofs.acyclic.Acyclic.copy_order.Goals as goal
+use Rattle.daggy_dag.proofs.acyclic.Acyclic.copied_parts.Goals as goal
 
 pub returns-clause-ordered : goal.returns-clause-ordered
 returns-clause-ordered g c =
