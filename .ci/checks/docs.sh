@@ -15,7 +15,7 @@ import subprocess
 import sys
 import tempfile
 
-EXAMPLE = "crates/example_garden/src/tests.rt"
+EXAMPLE = "crates/tests_queries/src/first_example.rt"
 bad = 0
 
 

@@ -2,9 +2,6 @@
 //! be done. `.ci/use` copies it.
 #![tactic(auto)]
 
-#[cfg(test)]
-mod tests;
-
 use anyhow::Result;
 use daggy::{Dag, EdgeError};
 

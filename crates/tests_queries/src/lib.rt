@@ -1,6 +1,9 @@
-//! What is asked of dags, by example: traversals, ready queues and schedules, names and pictures.
+//! What is asked of dags, by example: walkers, traversals, ready queues and schedules, names and
+//! pictures.
 #![tactic(auto)]
 
+#[cfg(test)]
+mod first_example;
 #[cfg(test)]
 mod named;
 #[cfg(test)]
@@ -11,3 +14,5 @@ mod schedule;
 mod support;
 #[cfg(test)]
 mod traversal;
+#[cfg(test)]
+mod walks;
