@@ -131,7 +131,8 @@ place_in (x ∷ xs) n low =
       | inr d ↦ inr (place_in xs n (omega (arith, low, place_other x n xs d)))
     ]
 
-place_read : (xs : List ℕ) (k : ℕ) → Unique xs → k < length xs → place xs (get_or xs k 0) ≡ k
+-- a member of a list of distinct nodes stands where it is read
+pub place_read : (xs : List ℕ) (k : ℕ) → Unique xs → k < length xs → place xs (get_or xs k 0) ≡ k
 place_read [] k u low = absurd (omega (arith, low))
 place_read (x ∷ xs) zero u low = place_same x x xs refl
 place_read (x ∷ xs) (suc k) u low =

@@ -16,7 +16,7 @@ use Rattle.daggy_base.proofs.Lists.{Mem, Unique, mem_at, mem_right, mem_contains
 use Rattle.daggy_base.proofs.Lists.{fewer_than, unique_from_distinct}
 use Rattle.daggy_base.proofs.OutEdgesRead.{below_bound}
 use Rattle.daggy_base.proofs.PathsWithEdge.{reaches_on}
-use Rattle.daggy_base.proofs.Sorted.{mem_filter, filter_mem, place_same, place_other, unique_cross}
+use Rattle.daggy_base.proofs.Sorted.{mem_filter, filter_mem, place_at, place_same, place_other, unique_cross}
 use Rattle.daggy_base.proofs.ListParts.{filter_yes, filter_no}
 use Rattle.daggy_reduction.specs.Blocks.{IsPlaced}
 use Rattle.daggy_reduction.proofs.FlaggedRedundant.{joined_exist}
@@ -29,21 +29,6 @@ use Rattle.daggy_reduction.proofs.SweptNodes.{below_exists, few_there}
 either : (b : Bool) → (b ≡ false) ⊎ (b ≡ true)
 either false = inl refl
 either true = inr refl
-
--- an element stands at its place
-pub place_at : (xs : List ℕ) (x : ℕ) → Mem x xs → (place xs x < length xs) × (get_or xs (place xs x) 0 ≡ x)
-place_at [] x m = absurd m
-place_at (y ∷ xs) x m =
-    elim (cases_eq y x) [
-      | inl e ↦
-          (let p = place_same y x xs e in
-          (omega (arith, p), ap (λ k. get_or (y ∷ xs) k 0) p ∙ e))
-      | inr ne ↦
-          (let later : Mem x xs = elim m [ inl e ↦ absurd (ne (sym e)) | inr l ↦ l ] in
-          let p = place_other y x xs ne in
-          let r = place_at xs x later in
-          (omega (arith, p, r.0), ap (λ k. get_or (y ∷ xs) k 0) p ∙ r.1))
-    ]
 
 -- some of a list stand as they stood
 pub filter_places : (p : ℕ → Bool) (xs : List ℕ) (u v : ℕ) → p u ≡ true → p v ≡ true → place xs u < place xs v
@@ -78,15 +63,18 @@ filter_places p (x ∷ xs) u v pu pv h =
         let P : List ℕ → Type 0 = λ z. place z u < place z v in
         subst P (sym (filter_no p x xs (sym is))) below
 
+-- the members of a list that pass a test
+pub filter_exact : (p : ℕ → Bool) (xs : List ℕ) {Part : ℕ → Type 0} → ((n : ℕ) → (p n ≡ true) ↔ Part n)
+    → ((n : ℕ) → Part n → Contains xs n) → (n : ℕ) → Contains (filter p xs) n ↔ Part n
+filter_exact p xs part held n = (
+  λ c. (part n).0 (filter_mem p xs n (contains_mem (filter p xs) n c)).1,
+  λ h. mem_contains (filter p xs) n (mem_filter p xs n (contains_mem xs n (held n h)) ((part n).1 h)),
+)
+
 module _ {N E : Type 0} {end : ℕ} {g : Graph N E} (w : IsWellFormed end g) (order : List ℕ) (ord : IsOrderOf g order)
     (roots : List ℕ) (p : ℕ → Bool) (below : (n : ℕ) → (p n ≡ true) ↔ IsBelow g roots n) where
   pub listed_below : (n : ℕ) → Contains (filter p order) n ↔ IsBelow g roots n
-  listed_below n = (
-    λ c. (below n).0 (filter_mem p order n (contains_mem (filter p order) n c)).1,
-    λ b.
-        mem_contains (filter p order) n
-        (mem_filter p order n (contains_mem order n ((ord.exact n).1 (below_exists g roots n b))) ((below n).1 b)),
-  )
+  listed_below = filter_exact p order below (λ n b. (ord.exact n).1 (below_exists g roots n b))
 
   pub all_placed : (nodes places : List ℕ) → nodes ≡ filter p order
       → ((k : ℕ) → k < length nodes → get_or places (get_or nodes k 0) 0 ≡ k) → IsPlaced g nodes places

@@ -1,11 +1,12 @@
 //! The nodes reachable from some nodes, in an order.
-ghost use Rattle.std.specs.Prelude.{◌≡◌, ℕ, ◌+◌, ◌≤◌, ◌↔◌, ◌⊎◌, map, take, length, Contains};
-ghost use Rattle.std.specs.Prelude.{IfOk, OnOk};
+ghost use Rattle.std.specs.Prelude.{◌≡◌, ℕ, ◌+◌, ◌≤◌, ◌↔◌, ◌⊎◌, false, map, take, filter, length};
+ghost use Rattle.std.specs.Prelude.{slice_index_or, Contains, IfOk, OnOk};
 ghost use Rattle.daggy_base.specs.Graph.{HasNode, node_bound, edge_count, out_list};
 ghost use Rattle.daggy_base.specs.Ordered.{edges_from};
 ghost use Rattle.daggy_base.specs.Path.{AreJoined};
 ghost use Rattle.daggy_base.specs.Reduction.{IsBelow};
 ghost use Rattle.daggy_base.specs.WellFormed.{IsWellFormed};
+ghost use Rattle.daggy_search.specs.Work.{IsSized};
 ghost use Rattle.daggy_reduction.specs.Descendants.{IsChildOfAny, IsDescendantOfAny, IsSortedPart};
 
 use crate::roots::queue_below;
@@ -79,6 +80,27 @@ fn front_nodes<Ix: IndexType>(
     Ok(found)
 }
 
+// The nodes of an order that a search entered, some `count` of them.
+fn entered_nodes<Ix: IndexType>(
+    alloc: Global,
+    order: &Order<Ix>,
+    work: &Worklist<Ix>,
+    count: usize,
+) -> Result<Vec<NodeIndex<Ix>>, AllocError>
+    requires { IsSized work.now.size work.now }
+    ensures { IfOk result (λ found. map Ix.number found.items
+        ≡ filter (λ n. slice_index_or work.now.entered n false) order.now) }
+{
+    let mut found = Vec::with_capacity(alloc, count)?;
+    'nodes: for n in order.nodes() {
+        let i = n.index();
+        if i < work.len() && work.is_entered(i) {
+            found.push(n)?;
+        }
+    }
+    Ok(found)
+}
+
 /// The existing nodes of `nodes` and all nodes reachable from them, each once, by their positions
 /// in an order of all nodes.
 ///
@@ -111,6 +133,10 @@ pub fn affected<Ix: IndexType, S: EdgeSource<Ix>>(
     // Called only for its postcondition: the graph is well formed.
     let _bound = source.node_bound();
     let count = queue_below(source, nodes, &mut scratch.work);
+    // Half of the nodes are read off the order in less time than they are sorted.
+    if order.len() / 2 <= count {
+        return entered_nodes(alloc, order, &scratch.work, count);
+    }
     let mut found = front_nodes(alloc, &scratch.work, count)?;
     order.sort_by_place(alloc, found.as_mut_slice())?;
     Ok(found)

@@ -1,14 +1,41 @@
-use Rattle.std.proofs.Common.{◌≡◌, ℕ, List, ◌++◌, length, take, drop, map, subst, Contains}
+use Rattle.std.proofs.Common.{◌≡◌, ℕ, List, false, ◌++◌, length, take, drop, map, get_or, sym, subst, Contains}
+use Rattle.std.specs.List.{filter}
 use Rattle.std.specs.List.Sorted.{IsPermutation, IsNonDecreasingBy}
+use Rattle.std.proofs.lemmas.Result.{IfOk-weaker}
 use Rattle.daggy_search.proofs.Entries.{come_back}
 use Rattle.daggy_reduction.specs.Descendants.{IsSortedPart}
 use Rattle.daggy_base.specs.Ordered.{place}
 use Rattle.daggy_base.specs.Reduction.{IsBelow}
-use Rattle.daggy_reduction.proofs.AffectedNodes.{part_sorted}
+use Rattle.daggy_reduction.proofs.AffectedNodes.{part_sorted, part_read}
 use Rattle.daggy_reduction.proofs.SweptNodes.{below_exists}
 use Rattle.daggy_reduction.proofs.affected.affected.Given.{Over}
-use Rattle.daggy_reduction.proofs.affected.affected.Goals.{After-sort_by_place}
+use Rattle.daggy_reduction.proofs.affected.affected.Goals.{After-entered_nodes, After-sort_by_place}
 use Rattle.daggy_reduction.proofs.affected.affected.Goals as goal
+
+-- what is read off the order
+read : (g : Over) (c : After-entered_nodes g) (nodes : List ℕ)
+    → nodes ≡ filter (λ n. get_or c.queue_below-count.new.work.entered n false) c.args.order.now
+    → IsSortedPart c.args.order.now (IsBelow (g.S.EdgeSource.graph c.args.source.now) (map g.Ix.IndexType.number c.args.nodes.now)) nodes
+read g c nodes is =
+    let graph = g.S.EdgeSource.graph c.args.source.now in
+    let given = map g.Ix.IndexType.number c.args.nodes.now in
+    subst (IsSortedPart c.args.order.now (IsBelow graph given)) (sym is)
+    (part_read (λ n. get_or c.queue_below-count.new.work.entered n false) c.len.ensures.distinct
+    c.queue_below-count.ensures.entered (λ n b. c.requires.held n (below_exists graph given n b)))
+
+pub returns-then-len-count-clause-found : goal.returns-then-len-count-clause-found
+returns-then-len-count-clause-found g c =
+    let at = (goal.at.returns-then-len-count-clause-found g c).After-entered_nodes in
+    IfOk-weaker c.entered_nodes.result _ _ (λ found is. read g at (map g.Ix.IndexType.number found.items) is)
+    c.entered_nodes.ensures
+
+pub returns-then-len-count-clause-visited : goal.returns-then-len-count-clause-visited
+returns-then-len-count-clause-visited g c =
+    let at = (goal.at.returns-then-len-count-clause-visited g c).After-entered_nodes in
+    IfOk-weaker c.entered_nodes.result _ _ (λ found is.
+    c.queue_below-count.ensures.visited _
+    (λ n b. ((read g at (map g.Ix.IndexType.number found.items) is).exact n).1 b))
+    c.entered_nodes.ensures
 
 pub sort_by_place-requires : goal.sort_by_place-requires
 sort_by_place-requires g c n has =
