@@ -12,7 +12,7 @@ use Rattle.daggy_base.specs.Path.{AreJoined}
 use Rattle.daggy_base.specs.Reduction.{IsBelow}
 use Rattle.daggy_base.specs.WellFormed.{IsWellFormed}
 use Rattle.daggy_base.specs.Ordered.{IsOrderOf, place}
-use Rattle.daggy_base.proofs.Lists.{Mem, Unique, mem_at, mem_right, mem_contains, contains_mem}
+use Rattle.daggy_base.proofs.Lists.{Mem, Unique, mem_at, mem_right, mem_cases, mem_contains, contains_mem}
 use Rattle.daggy_base.proofs.Lists.{fewer_than, unique_from_distinct}
 use Rattle.daggy_base.proofs.OutEdgesRead.{below_bound}
 use Rattle.daggy_base.proofs.PathsWithEdge.{reaches_on}
@@ -77,11 +77,14 @@ module _ {N E : Type 0} {end : ℕ} {g : Graph N E} (w : IsWellFormed end g) (or
   listed_below = filter_exact p order below (λ n b. (ord.exact n).1 (below_exists g roots n b))
 
   pub all_placed : (nodes places : List ℕ) → nodes ≡ filter p order
-      → ((k : ℕ) → k < length nodes → get_or places (get_or nodes k 0) 0 ≡ k) → IsPlaced g nodes places
-  all_placed nodes places is at =
+      → ((k : ℕ) → k < length nodes → get_or places (get_or nodes k 0) 0 ≡ k)
+      → ((n : ℕ) → Contains order n → get_or places n 0 < length nodes → get_or nodes (get_or places n 0) 0 ≡ n)
+      → IsPlaced g nodes places
+  all_placed nodes places is at elsewhere =
       record {
         exist = λ n c. below_exists g roots n ((listed n).0 c);
         at = at;
+        elsewhere = λ n h low. elsewhere n ((ord.exact n).1 h) low;
         closed = closed;
         sorted = λ u v c j.
             (let cv = closed u v c j in
@@ -109,26 +112,30 @@ module _ {N E : Type 0} {end : ℕ} {g : Graph N E} (w : IsWellFormed end g) (or
 pub filter_short : (p : ℕ → Bool) (xs : List ℕ) → length (filter p xs) ≤ length xs
 filter_short p xs = omega (arith, length-filter_both p (λ x. not (p x)) (λ x. refl) xs)
 
--- the marked ones among the first nodes of an order listed, with their places
-pub record Listing (p : ℕ → Bool) (order rest nodes places : List ℕ) (len : ℕ) : Type 0 where
+-- the marked ones among the first nodes of an order listed, with their places; the places of the others are past all
+pub record Listing (p : ℕ → Bool) (end : ℕ) (order rest nodes places : List ℕ) (len : ℕ) : Type 0 where
   pub done : List ℕ
   pub whole : order ≡ done ++ rest
   pub few : len ≤ length done
   pub listed : take len nodes ≡ filter p done
   pub placed : (k : ℕ) → k < len → get_or places (get_or nodes k 0) 0 ≡ k
+  pub elsewhere : (m : ℕ) → Mem m done
+      → ((get_or places m 0 < len) × (get_or nodes (get_or places m 0) 0 ≡ m)) ⊎ (end ≤ get_or places m 0)
 
-pub list_start : (p : ℕ → Bool) (order rest nodes places : List ℕ) → rest ≡ order → Listing p order rest nodes places 0
-list_start p order rest nodes places is =
+pub list_start : (p : ℕ → Bool) (end : ℕ) (order rest nodes places : List ℕ)
+    → rest ≡ order → Listing p end order rest nodes places 0
+list_start p end order rest nodes places is =
     record {
       done = [];
       whole = sym is;
       few = omega arith;
       listed = take_none nodes;
       placed = λ k low. absurd (omega (arith, low));
+      elsewhere = λ m there. absurd there;
     }
 
-module _ {p : ℕ → Bool} {order rest nodes places : List ℕ} {len : ℕ} (s : Listing p order rest nodes places len)
-    (n : ℕ) (rest' : List ℕ) (next : rest ≡ n ∷ rest') where
+module _ {p : ℕ → Bool} {end : ℕ} {order rest nodes places : List ℕ} {len : ℕ}
+    (s : Listing p end order rest nodes places len) (n : ℕ) (rest' : List ℕ) (next : rest ≡ n ∷ rest') where
   pub next_listed : Contains order n
   next_listed =
       let P : List ℕ → Type 0 = λ z. Mem n z in
@@ -145,9 +152,9 @@ module _ {p : ℕ → Bool} {order rest nodes places : List ℕ} {len : ℕ} (s 
       )
 
   pub list_on : (nodes' places' : List ℕ) (len' : ℕ) → Unique order → n < length places → len < length nodes
-      → (p n ≡ false → (nodes' ≡ nodes) × (places' ≡ places) × (len' ≡ len))
+      → (p n ≡ false → (nodes' ≡ nodes) × (places' ≡ set places n end) × (len' ≡ len))
       → (p n ≡ true → (nodes' ≡ set nodes len n) × (places' ≡ set places n len) × (len' ≡ len + 1))
-      → Listing p order rest' nodes' places' len'
+      → Listing p end order rest' nodes' places' len'
   list_on nodes' places' len' once low room passed put = go (p n) refl
     where
       whole' : order ≡ (s.done ++ n ∷ []) ++ rest'
@@ -156,7 +163,26 @@ module _ {p : ℕ → Bool} {order rest nodes places : List ℕ} {len : ℕ} (s 
       long : length (s.done ++ n ∷ []) ≡ length s.done + 1
       long = length-append s.done (n ∷ []) ∙ omega arith
 
-      go : (b : Bool) → b ≡ p n → Listing p order rest' nodes' places' len'
+      -- a node that was passed is another one, and so is one that was listed
+      other : (m : ℕ) → Mem m s.done → m ≢ n
+      other m old e =
+          let U : List ℕ → Type 0 = λ z. Unique z in
+          unique_cross s.done (n ∷ rest') (subst U (s.whole ∙ ap (λ z. s.done ++ z) next) once) m old (inl e)
+
+      listed_other : (k : ℕ) → k < len → get_or nodes k 0 ≢ n
+      listed_other k early =
+          let y = get_or nodes k 0 in
+          let sized : length (take len nodes) ≡ len = length-take-le len nodes (omega (arith, room)) in
+          let M : ℕ → Type 0 = λ z. Mem z (take len nodes) in
+          let D : List ℕ → Type 0 = λ z. Mem y z in
+          let there : Mem y (take len nodes) =
+          subst M (get_or-take len nodes k 0 early) (mem_at (take len nodes) k 0 (omega (arith, early, sized))) in
+          other y (filter_mem p s.done y (subst D s.listed there)).0
+
+      this : (m : ℕ) → Mem m (n ∷ []) → m ≡ n
+      this m there = elim there [ inl e ↦ e | inr none ↦ absurd none ]
+
+      go : (b : Bool) → b ≡ p n → Listing p end order rest' nodes' places' len'
       go false is =
           let h = passed (sym is) in
           record {
@@ -168,8 +194,30 @@ module _ {p : ℕ → Bool} {order rest nodes places : List ℕ} {len : ℕ} (s 
                 ∙ sym (filter-append p s.done (n ∷ []) ∙ ap (λ z. filter p s.done ++ z) (filter_no p n [] (sym is))
                 ∙ append-nil (filter p s.done));
             placed = λ k below.
-                (let at = s.placed k (omega (arith, below, h.2)) in
-                ap (λ z. get_or z (get_or nodes' k 0) 0) h.1 ∙ ap (λ z. get_or places (get_or z k 0) 0) h.0 ∙ at);
+                (let early : k < len = omega (arith, below, h.2) in
+                ap (λ z. get_or z (get_or nodes' k 0) 0) h.1
+                ∙ ap (λ z. get_or (set places n end) (get_or z k 0) 0) h.0
+                ∙ get_or-set_other places n (get_or nodes k 0) end 0 (listed_other k early) ∙ s.placed k early);
+            elsewhere = λ m there. elim (mem_cases s.done (n ∷ []) m there) [
+              | inl old ↦
+                  (let at : get_or places' m 0 ≡ get_or places m 0 =
+                  ap (λ z. get_or z m 0) h.1 ∙ get_or-set_other places n m end 0 (other m old) in
+                  elim (s.elsewhere m old) [
+                    | inl here ↦
+                        inl (
+                          omega (arith, at, here.0, h.2),
+                          ap (λ z. get_or nodes' z 0) at ∙ ap (λ z. get_or z (get_or places m 0) 0) h.0 ∙ here.1,
+                        )
+                    | inr past ↦ inr (omega (arith, at, past))
+                  ])
+              | inr new ↦
+                  inr (omega (
+                    arith,
+                    ap (λ z. get_or places' z 0) (this m new),
+                    ap (λ z. get_or z n 0) h.1,
+                    get_or-set_same places n end 0 low,
+                  ))
+            ];
           }
       go true is =
           let h = put (sym is) in
@@ -179,9 +227,6 @@ module _ {p : ℕ → Bool} {order rest nodes places : List ℕ} {len : ℕ} (s 
           let grown : take (len + 1) (set nodes len n) ≡ take len nodes ++ n ∷ [] =
           take_more (set nodes len n) len 0 inside ∙ ap (λ z. z ++ get_or (set nodes len n) len 0 ∷ []) front
           ∙ ap (λ z. take len nodes ++ z ∷ []) last in
-          let cross = unique_cross s.done (n ∷ rest') (
-          let U : List ℕ → Type 0 = λ z. Unique z in
-          subst U (s.whole ∙ ap (λ z. s.done ++ z) next) once) in
           record {
             done = s.done ++ n ∷ [];
             whole = whole';
@@ -196,40 +241,52 @@ module _ {p : ℕ → Bool} {order rest nodes places : List ℕ} {len : ℕ} (s 
                   | inl here ↦
                       ap (λ z. get_or (set places n len) (get_or (set nodes len n) z 0) 0) here
                       ∙ ap (λ z. get_or (set places n len) z 0) last ∙ get_or-set_same places n len 0 low ∙ sym here
-                  | inr other ↦
-                      (let early : k < len = omega (arith, below, h.2, other) in
-                      let y = get_or nodes k 0 in
-                      let same : get_or (set nodes len n) k 0 ≡ y = get_or-set_other nodes len k n 0 other in
-                      let sized : length (take len nodes) ≡ len = length-take-le len nodes (omega (arith, room)) in
-                      let M : ℕ → Type 0 = λ z. Mem z (take len nodes) in
-                      let D : List ℕ → Type 0 = λ z. Mem y z in
-                      let there : Mem y (take len nodes) =
-                      subst M (get_or-take len nodes k 0 early)
-                      (mem_at (take len nodes) k 0 (omega (arith, early, sized))) in
-                      let old : Mem y s.done = (filter_mem p s.done y (subst D s.listed there)).0 in
-                      let apart : y ≢ n = λ e. cross y old (inl e) in
-                      ap (λ z. get_or (set places n len) z 0) same ∙ get_or-set_other places n y len 0 apart
-                      ∙ s.placed k early)
+                  | inr apart ↦
+                      (let early : k < len = omega (arith, below, h.2, apart) in
+                      ap (λ z. get_or (set places n len) z 0) (get_or-set_other nodes len k n 0 apart)
+                      ∙ get_or-set_other places n (get_or nodes k 0) len 0 (listed_other k early) ∙ s.placed k early)
                 ] in
                 ap (λ z. get_or z (get_or nodes' k 0) 0) h.1 ∙ ap (λ z. get_or (set places n len) (get_or z k 0) 0) h.0
                 ∙ at);
+            elsewhere = λ m there. elim (mem_cases s.done (n ∷ []) m there) [
+              | inl old ↦
+                  (let at : get_or places' m 0 ≡ get_or places m 0 =
+                  ap (λ z. get_or z m 0) h.1 ∙ get_or-set_other places n m len 0 (other m old) in
+                  elim (s.elsewhere m old) [
+                    | inl here ↦
+                        inl (
+                          omega (arith, at, here.0, h.2),
+                          ap (λ z. get_or nodes' z 0) at ∙ ap (λ z. get_or z (get_or places m 0) 0) h.0
+                              ∙ get_or-set_other nodes len (get_or places m 0) n 0 (λ e. omega (arith, e, here.0)) ∙ here.1,
+                        )
+                    | inr past ↦ inr (omega (arith, at, past))
+                  ])
+              | inr new ↦
+                  (let at : get_or places' m 0 ≡ len =
+                  ap (λ z. get_or places' z 0) (this m new) ∙ ap (λ z. get_or z n 0) h.1
+                  ∙ get_or-set_same places n len 0 low in
+                  inl (
+                    omega (arith, at, h.2),
+                    ap (λ z. get_or nodes' z 0) at ∙ ap (λ z. get_or z len 0) h.0 ∙ last ∙ sym (this m new),
+                  ))
+            ];
           }
 
 -- the next node of the order was listed in a worklist if it was entered, and passed over if not
-module _ {size : ℕ} {work : Work} (sized : IsSized size work) {before : List Bool} (same : work.entered ≡ before)
+module _ {size end : ℕ} {work : Work} (sized : IsSized size work) {before : List Bool} (same : work.entered ≡ before)
     {order rest : List ℕ} {len : ℕ} (once : Unique order) {n : ℕ} (low : n < size) (fits : length order ≤ size)
-    (s : Listing (λ k. get_or before k false) order rest work.nodes work.cursors len) where
+    (s : Listing (λ k. get_or before k false) end order rest work.nodes work.cursors len) where
   pub listed_or_passed : (rest' : List ℕ) → rest ≡ n ∷ rest' → {work' : Work} {len' : ℕ}
-      → (get_or work.entered n false ≡ false → (work' ≡ work) × (len' ≡ len))
+      → (get_or work.entered n false ≡ false → (work' ≡ record work { cursors = set work.cursors n end }) × (len' ≡ len))
       → (get_or work.entered n false ≡ true → (work' ≡ record work {
         nodes = set work.nodes len n;
         cursors = set work.cursors n len;
       }) × (len' ≡ len + 1))
       → IsSized size work' × (work'.entered ≡ before)
-      × Listing (λ k. get_or before k false) order rest' work'.nodes work'.cursors len'
+      × Listing (λ k. get_or before k false) end order rest' work'.nodes work'.cursors len'
   listed_or_passed rest' next {work'} {len'} passed put = (kept.0, kept.1, listing)
     where
-      listing : Listing (λ k. get_or before k false) order rest' work'.nodes work'.cursors len'
+      listing : Listing (λ k. get_or before k false) end order rest' work'.nodes work'.cursors len'
       listing =
           list_on s n rest' next work'.nodes work'.cursors len' once (omega (arith, low, sized.cursors_are))
           (omega (arith, next_few s n rest' next, fits, sized.nodes_are))
@@ -242,18 +299,27 @@ module _ {size : ℕ} {work : Work} (sized : IsSized size work) {before : List B
 
       kept : IsSized size work' × (work'.entered ≡ before)
       kept = elim (either (get_or work.entered n false)) [
-        | inl out ↦ (let p = passed out in rw p.0 (sized, same))
+        | inl out ↦ (let p = passed out in rw p.0 (sized_put_cursor sized n end, same))
         | inr there ↦ (let p = put there in rw p.0 (sized_put_cursor (sized_put_node sized len n) n len, same))
       ]
 
-pub list_whole : {p : ℕ → Bool} {order rest nodes places : List ℕ} {len : ℕ} → Listing p order rest nodes places len
-    → rest ≡ [] → take len nodes ≡ filter p order
-list_whole {p} {order} {rest} {nodes} {places} {len} s none =
+pub list_whole : {p : ℕ → Bool} {end : ℕ} {order rest nodes places : List ℕ} {len : ℕ}
+    → Listing p end order rest nodes places len → rest ≡ [] → take len nodes ≡ filter p order
+list_whole {p} s none =
     s.listed ∙ ap (filter p) (sym (s.whole ∙ ap (λ z. s.done ++ z) none ∙ append-nil s.done))
 
-pub list_few : {p : ℕ → Bool} {order rest nodes places : List ℕ} {len : ℕ}
-    → Listing p order rest nodes places len → len ≤ length order
-list_few {p} {order} {rest} s =
+pub list_elsewhere : {p : ℕ → Bool} {end : ℕ} {order rest nodes places : List ℕ} {len : ℕ}
+    → Listing p end order rest nodes places len → rest ≡ [] → len ≤ end → (n : ℕ) → Contains order n
+    → get_or places n 0 < len → get_or nodes (get_or places n 0) 0 ≡ n
+list_elsewhere {p} {end} {order} s none real n held low =
+    let P : List ℕ → Type 0 = λ z. Mem n z in
+    let there : Mem n s.done =
+    subst P (s.whole ∙ ap (λ z. s.done ++ z) none ∙ append-nil s.done) (contains_mem order n held) in
+    elim (s.elsewhere n there) [ inl here ↦ here.1 | inr past ↦ absurd (omega (arith, past, low, real)) ]
+
+pub list_few : {p : ℕ → Bool} {end : ℕ} {order rest nodes places : List ℕ} {len : ℕ}
+    → Listing p end order rest nodes places len → len ≤ length order
+list_few {p} {end} {order} {rest} s =
     omega (arith, s.few, ap (λ (z : List ℕ). length z) s.whole, length-append s.done rest)
 
 -- the first nodes of a list stand at their places
@@ -263,6 +329,15 @@ pub placed_front : (nodes places : List ℕ) (count : ℕ) → count ≤ length 
 placed_front nodes places count within at k low =
     let early : k < count = omega (arith, low, length-take-le count nodes within) in
     ap (λ z. get_or places z 0) (get_or-take count nodes k 0 early) ∙ at k early
+
+-- and no other node has such a place
+pub front_elsewhere : (order nodes places : List ℕ) (count : ℕ) → count ≤ length nodes
+    → ((n : ℕ) → Contains order n → get_or places n 0 < count → get_or nodes (get_or places n 0) 0 ≡ n) → (n : ℕ)
+    → Contains order n → get_or places n 0 < length (take count nodes)
+    → get_or (take count nodes) (get_or places n 0) 0 ≡ n
+front_elsewhere order nodes places count within elsewhere n held low =
+    let early : get_or places n 0 < count = omega (arith, low, length-take-le count nodes within) in
+    get_or-take count nodes (get_or places n 0) 0 early ∙ elsewhere n held early
 
 -- an order has no more nodes than there are indices in use
 pub order_short : {N E : Type 0} {g : Graph N E} (order : List ℕ) → IsOrderOf g order → length order ≤ node_bound g

@@ -117,7 +117,7 @@ pub(crate) fn enter_below<Ix: IndexType, S: EdgeSource<Ix>>(
 }
 
 // Appends a node to the list of a worklist if it is entered, with its place as its cursor, and
-// returns the new length.
+// returns the new length. The cursor of any other node becomes `end`.
 #[inline]
 fn list_if_entered<Ix: IndexType>(work: &mut Worklist<Ix>, len: usize, n: NodeIndex<Ix>) -> usize
     requires low { Ix.number n < work.old.size }
@@ -125,7 +125,9 @@ fn list_if_entered<Ix: IndexType>(work: &mut Worklist<Ix>, len: usize, n: NodeIn
     requires real { len ≤ Ix.greatest }
     requires sized { IsSized work.old.size work.old }
     ensures passed { slice_index_or work.old.entered (Ix.number n) false ≡ false
-        → (work.new ≡ work.old) × (result ≡ len) }
+        → (work.new ≡ record work.old {
+          cursors = slice_set work.old.cursors (Ix.number n) Ix.greatest;
+        }) × (result ≡ len) }
     ensures put { slice_index_or work.old.entered (Ix.number n) false ≡ true
         → (work.new ≡ record work.old {
           nodes = slice_set work.old.nodes len (Ix.number n);
@@ -134,6 +136,7 @@ fn list_if_entered<Ix: IndexType>(work: &mut Worklist<Ix>, len: usize, n: NodeIn
 {
     let i = n.index();
     if !work.is_entered(i) {
+        work.put_cursor(i, Link::end());
         return len;
     }
     work.put_node(len, Link::of_node(n));
@@ -142,7 +145,7 @@ fn list_if_entered<Ix: IndexType>(work: &mut Worklist<Ix>, len: usize, n: NodeIn
 }
 
 // Lists the entered nodes of an order, each with its place as its cursor, and returns how many
-// there are.
+// there are. No cursor of another node of the order is the place of one of them.
 fn list_entered<Ix: IndexType>(order: &Order<Ix>, work: &mut Worklist<Ix>) -> usize
     requires distinct { AreDistinct order.now }
     requires low { (n : ℕ) → Contains order.now n → n < work.old.size }
@@ -153,6 +156,8 @@ fn list_entered<Ix: IndexType>(order: &Order<Ix>, work: &mut Worklist<Ix>) -> us
         ≡ filter (λ n. slice_index_or work.old.entered n false) order.now }
     ensures placed { (k : ℕ) → k < result
         → slice_index work.new.cursors (slice_index work.new.nodes k) ≡ k }
+    ensures elsewhere { (n : ℕ) → Contains order.now n → slice_index work.new.cursors n < result
+        → slice_index work.new.nodes (slice_index work.new.cursors n) ≡ n }
     ensures within { result ≤ length order.now }
     ensures kept { IsSized work.old.size work.new }
 {

@@ -1,7 +1,7 @@
-use Rattle.std.proofs.Common.{false, map, take, get_or, arith}
+use Rattle.std.proofs.Common.{◌≤◌, false, length, map, take, get_or, arith}
 use Rattle.daggy_base.proofs.OutEdgesRead.{below_bound}
 use Rattle.daggy_base.proofs.PathsWithNode.{bound_low}
-use Rattle.daggy_reduction.proofs.PlacedNodes.{listed_below, all_placed, placed_front, order_short, order_few}
+use Rattle.daggy_reduction.proofs.PlacedNodes.{listed_below, all_placed, placed_front, front_elsewhere, order_short, order_few}
 use Rattle.daggy_reduction.proofs.roots.list_below.Goals as goal
 
 pub list_entered-requires-clause-low : goal.list_entered-requires-clause-low
@@ -43,19 +43,20 @@ pub returns-clause-placed : goal.returns-clause-placed
 returns-clause-placed g c =
     let count = c.list_entered.result in
     let work = c.list_entered.new.work in
-    all_placed c.requires.well_formed c.args.order.now c.requires.ordered
-    (map g.Ix.IndexType.number c.args.roots.now) (λ n. get_or c.queue_below.new.work.entered n false)
-    c.queue_below.ensures.entered (take count work.nodes) work.cursors c.list_entered.ensures.listed
-    (placed_front work.nodes work.cursors count
-    (omega (
+    let order = c.args.order.now in
+    let within : count ≤ length work.nodes = omega (
       arith,
-      order_short c.args.order.now c.requires.ordered,
+      order_short order c.requires.ordered,
       c.requires.fits,
       c.list_entered.ensures.within,
       c.list_entered.ensures.kept.nodes_are,
       c.queue_below.ensures.kept.size_is,
-    ))
-    c.list_entered.ensures.placed)
+    ) in
+    all_placed c.requires.well_formed order c.requires.ordered
+    (map g.Ix.IndexType.number c.args.roots.now) (λ n. get_or c.queue_below.new.work.entered n false)
+    c.queue_below.ensures.entered (take count work.nodes) work.cursors c.list_entered.ensures.listed
+    (placed_front work.nodes work.cursors count within c.list_entered.ensures.placed)
+    (front_elsewhere order work.nodes work.cursors count within c.list_entered.ensures.elsewhere)
 
 pub returns-clause-few : goal.returns-clause-few
 returns-clause-few g c =

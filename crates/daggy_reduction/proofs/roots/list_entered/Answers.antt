@@ -2,7 +2,7 @@ use Rattle.std.proofs.Common.{rules, arith, subst, sym}
 use Rattle.daggy_base.proofs.Lists.{unique_from_distinct}
 use Rattle.daggy_search.specs.Work.{IsSized}
 use Rattle.daggy_reduction.proofs.PlacedNodes.{next_listed, next_few, list_whole, list_few}
-use Rattle.daggy_reduction.proofs.PlacedNodes.{listed_or_passed}
+use Rattle.daggy_reduction.proofs.PlacedNodes.{listed_or_passed, list_elsewhere}
 use Rattle.daggy_reduction.proofs.roots.list_entered.Goals as goal
 
 pub list_if_entered-len-requires-clause-low : goal.list_if_entered-len-requires-clause-low
@@ -50,6 +50,11 @@ returns-clause-listed g c = list_whole c.nodes.invariant.listing c.in-None.ensur
 
 pub returns-clause-placed : goal.returns-clause-placed
 returns-clause-placed g c = c.nodes.invariant.listing.placed
+
+pub returns-clause-elsewhere : goal.returns-clause-elsewhere
+returns-clause-elsewhere g c =
+    list_elsewhere c.nodes.invariant.listing c.in-None.ensures.steps.0
+    (omega (arith, list_few c.nodes.invariant.listing, c.requires.real))
 
 pub returns-clause-within : goal.returns-clause-within
 returns-clause-within g c = omega (arith, list_few c.nodes.invariant.listing)

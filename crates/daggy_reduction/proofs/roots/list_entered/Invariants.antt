@@ -10,5 +10,6 @@ invariant-nodes g l =
       ends : (goal.iterator-nodes g).is_finite l.n-iterator;
       sized : IsSized l.fn.work.size l.work;
       entered : l.work.entered ≡ l.fn.work.entered;
-      listing : Listing (λ n. get_or l.fn.work.entered n false) l.fn.order l.n-iterator l.work.nodes l.work.cursors l.len;
+      listing : Listing (λ n. get_or l.fn.work.entered n false) g.Ix.IndexType.greatest l.fn.order l.n-iterator
+          l.work.nodes l.work.cursors l.len;
     }
