@@ -229,7 +229,7 @@ impl<Ix: IndexType> Order<Ix> {
         ensures { self.new ≡ Ix.number n ∷ without (Ix.number n) self.old }
     {
         if self.tail.count == 1 && n.index() == self.tail.from {
-            // It is not linked yet, so it need not be linked last first.
+            // The node is not linked yet, so it is put there at once.
             self.tail = self.list.link_first(self.tail);
             return;
         }

@@ -8,12 +8,13 @@ use Rattle.daggy_search.specs.declared.arcs.Arc.{Arc}
 use Rattle.daggy_search.specs.declared.arcs.Segment.{Segment}
 use Rattle.daggy_reduction.specs.Flags.{IsFlagged}
 
--- existing nodes and all that they reach, each parent before its children, with the place of each; the place of any
--- other node is past them
+-- existing nodes and all that they reach, each parent before its children, with the place of each; other nodes have
+-- places past the end
 pub record IsPlaced {N E : Type 0} (g : Graph N E) (nodes places : List ℕ) : Type 0 where
   pub exist : (n : ℕ) → Contains nodes n → HasNode g n
   pub at : (k : ℕ) → k < length nodes → slice_index places (slice_index nodes k) ≡ k
-  pub elsewhere : (n : ℕ) → HasNode g n → slice_index places n < length nodes → slice_index nodes (slice_index places n) ≡ n
+  pub elsewhere : (n : ℕ) → HasNode g n
+      → slice_index places n < length nodes → slice_index nodes (slice_index places n) ≡ n
   pub closed : (u v : ℕ) → Contains nodes u → AreJoined g u v → Contains nodes v
   pub sorted : (u v : ℕ) → Contains nodes u → AreJoined g u v → slice_index places u < slice_index places v
 

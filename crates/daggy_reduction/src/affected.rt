@@ -80,7 +80,7 @@ fn front_nodes<Ix: IndexType>(
     Ok(found)
 }
 
-// The nodes of an order that a search entered, some `count` of them.
+// The nodes of an order that a search entered. `count` is how many there are, for the capacity.
 fn entered_nodes<Ix: IndexType>(
     alloc: Global,
     order: &Order<Ix>,
@@ -133,7 +133,7 @@ pub fn affected<Ix: IndexType, S: EdgeSource<Ix>>(
     // Called only for its postcondition: the graph is well formed.
     let _bound = source.node_bound();
     let count = queue_below(source, nodes, &mut scratch.work);
-    // Half of the nodes are read off the order in less time than they are sorted.
+    // Going through the whole order takes less time than sorting half of it.
     if order.len() / 2 <= count {
         return entered_nodes(alloc, order, &scratch.work, count);
     }

@@ -23,8 +23,7 @@ fn nodes_reached(nodes: usize, edges: usize) -> usize {
 }
 
 // Whether blocks take fewer looks than the searches are expected to take. A search stays before the
-// last child of its node, and reaches about `nodes_reached` nodes if there are as many. If nodes have
-// many children on average, the last one cannot be near, so no spans are added up.
+// last child of its node, and reaches about `nodes_reached` nodes if there are as many.
 fn blocks_pay<Ix: IndexType, S: Store<Ix>>(
     store: &S,
     order: &Order<Ix>,
@@ -36,12 +35,11 @@ fn blocks_pay<Ix: IndexType, S: Store<Ix>>(
 {
     let nodes = store.node_count();
     let edges = store.edge_count();
-    let blocks = nodes / BLOCK + 1;
-    let looks = blocks.saturating_mul(edges.saturating_mul(2));
+    let looks = (nodes / BLOCK + 1).saturating_mul(edges.saturating_mul(2));
     if edges.saturating_mul(nodes_reached(nodes, edges)) <= looks {
         return false;
     }
-    edges / nodes.max(1) > blocks.saturating_mul(2) || looks < spanned(store, order, work)
+    looks < spanned(store, order, work)
 }
 
 // As `leave_redundant_in`, by blocks if they pay and there is memory for their rows.

@@ -145,7 +145,7 @@ fn list_if_entered<Ix: IndexType>(work: &mut Worklist<Ix>, len: usize, n: NodeIn
 }
 
 // Lists the entered nodes of an order, each with its place as its cursor, and returns how many
-// there are. No cursor of another node of the order is the place of one of them.
+// there are. The cursors of the other nodes of the order are no places in this list.
 fn list_entered<Ix: IndexType>(order: &Order<Ix>, work: &mut Worklist<Ix>) -> usize
     requires distinct { AreDistinct order.now }
     requires low { (n : ℕ) → Contains order.now n → n < work.old.size }
