@@ -1,6 +1,6 @@
 //! Commands to a dag and the replies to them, as values.
 
-use crate::index::{DefaultIx, EdgeIndex, NodeIndex};
+use crate::index::{DefaultIx, EdgeIndex, IndexType, NodeIndex};
 
 /// An edge, and a node that it leads to or comes from.
 pub type Neighbor<Ix> = (EdgeIndex<Ix>, NodeIndex<Ix>);
@@ -10,7 +10,7 @@ pub type NewEdge<E, Ix> = (NodeIndex<Ix>, NodeIndex<Ix>, E);
 
 /// A command to a dag. Indices need not exist.
 #[derive(Debug, Drop, PartialEq)]
-pub enum Command<N, E, Ix = DefaultIx> {
+pub enum Command<N, E, Ix: IndexType = DefaultIx> {
     /// Add a node of this weight.
     Node(N),
     /// Add an edge: its parent, its child and its weight.
@@ -45,7 +45,7 @@ pub enum Command<N, E, Ix = DefaultIx> {
 
 /// The reply to a command.
 #[derive(Debug, Drop, PartialEq)]
-pub enum Reply<N, E, Ix = DefaultIx> {
+pub enum Reply<N, E, Ix: IndexType = DefaultIx> {
     /// The node that was added.
     Node(NodeIndex<Ix>),
     /// The edge that was added, or whose weight was written.

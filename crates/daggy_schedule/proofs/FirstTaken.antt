@@ -12,22 +12,21 @@ use Rattle.std.specs.declared.cmp.Reverse.{Reverse}
 use Rattle.daggy_schedule.specs.LeastFirst.{Precedes}
 use Rattle.daggy_schedule.specs.Entries.{entries, turned}
 
-module _ {K I : Type 0} {by_key : K → K → Ordering} (total : IsTotalOrder by_key) {by_index : I → I → Ordering}
-    (number : I → ℕ) (order : (i j : I) → by_index i j ≡ nat_cmp (number i) (number j)) where
-  comes_first : (x y : Reverse (K × I)) → is_lt (turned by_key by_index x y) ≡ false
+module _ {K I : Type 0} {by_key : K → K → Ordering} (total : IsTotalOrder by_key) (number : I → ℕ) where
+  comes_first : (x y : Reverse (K × I)) → is_lt (turned by_key number x y) ≡ false
       → Precedes by_key (x.0.0, number x.0.1) (y.0.0, number y.0.1)
   comes_first x y h = by (by_key y.0.0 x.0.0) refl
     where
       by : (r : Ordering) → by_key y.0.0 x.0.0 ≡ r → Precedes by_key (x.0.0, number x.0.1) (y.0.0, number y.0.1)
       by Less is =
-          absurd (false≢true (sym h ∙ ap (λ z. is_lt (ordering_then z (by_index y.0.1 x.0.1))) is))
+          absurd (false≢true (sym h ∙ ap (λ z. is_lt (ordering_then z (nat_cmp (number y.0.1) (number x.0.1)))) is))
       by Equal is =
           let low : is_lt (nat_cmp (number y.0.1) (number x.0.1)) ≡ false =
-          ap is_lt (sym (order y.0.1 x.0.1)) ∙ (ap (λ z. is_lt (ordering_then z (by_index y.0.1 x.0.1))) (sym is) ∙ h) in
+          ap (λ z. is_lt (ordering_then z (nat_cmp (number y.0.1) (number x.0.1)))) (sym is) ∙ h in
           inr (total.antisymm x.0.0 y.0.0 ∙ ap ordering_reverse is, at_most (number y.0.1) (number x.0.1) low)
       by Greater is = inl (total.antisymm x.0.0 y.0.0 ∙ ap ordering_reverse is)
 
-  pub first_of_all : (x : Reverse (K × I)) (ys : List (Reverse (K × I))) → IsUpperBound (turned by_key by_index) x ys
+  pub first_of_all : (x : Reverse (K × I)) (ys : List (Reverse (K × I))) → IsUpperBound (turned by_key number) x ys
       → AllByRecursion (Precedes by_key (x.0.0, number x.0.1)) (entries number ys)
   first_of_all x [] h = tt
   first_of_all x (y ∷ ys) h = (comes_first x y h.0, first_of_all x ys h.1)

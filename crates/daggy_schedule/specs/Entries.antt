@@ -1,6 +1,6 @@
 -- The elements of a heap of keys and nodes.
 use Rattle.std.specs.Prelude.{ℕ, List, map}
-use Rattle.std.specs.Ordering.{ordering_then}
+use Rattle.std.specs.Ordering.{nat_cmp, ordering_then}
 use Rattle.std.specs.declared.cmp.Ordering.{Ordering}
 use Rattle.std.specs.declared.cmp.Reverse.{Reverse}
 
@@ -15,5 +15,5 @@ module _ {K I : Type 0} where
   entries number rs = map (λ r. (r.0.0, number r.0.1)) rs
 
   -- by keys and then by indices, the least greatest
-  abbrev pub turned : (K → K → Ordering) → (I → I → Ordering) → Reverse (K × I) → Reverse (K × I) → Ordering
-  turned by_key by_index x y = ordering_then (by_key y.0.0 x.0.0) (by_index y.0.1 x.0.1)
+  abbrev pub turned : (K → K → Ordering) → (I → ℕ) → Reverse (K × I) → Reverse (K × I) → Ordering
+  turned by_key number x y = ordering_then (by_key y.0.0 x.0.0) (nat_cmp (number y.0.1) (number x.0.1))

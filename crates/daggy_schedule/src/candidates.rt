@@ -28,7 +28,7 @@ impl<K: Ord, Ix: IndexType> Model for Candidates<K, Ix> {
       capacity = heap_capacity c.heap;
     } };
 
-    ghost invariant = { λ c. IsHeap (turned K.cmp Ix.cmp) (heap_items c.heap) };
+    ghost invariant = { λ c. IsHeap (turned K.cmp Ix.number) (heap_items c.heap) };
 }
 
 impl<K: Ord + Drop, Ix: IndexType> Candidates<K, Ix> {

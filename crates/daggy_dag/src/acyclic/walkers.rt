@@ -19,7 +19,7 @@ use std::marker::{Model, PhantomData};
 ///
 /// It does not borrow the dag. If the edge that comes next was removed, it yields nothing from then
 /// on, unless an edge gets that index again.
-#[derive_where(Debug; Ix)]
+#[derive_where(Debug; Ix: IndexType)]
 pub struct Children<N, E, Ix = DefaultIx> {
     pub(super) edge: EdgeIndex<Ix>,
     pub(super) node_weight: PhantomData<N>,
@@ -97,7 +97,7 @@ where
 ///
 /// It does not borrow the dag. If the edge that comes next was removed, it yields nothing from then
 /// on, unless an edge gets that index again.
-#[derive_where(Debug; Ix)]
+#[derive_where(Debug; Ix: IndexType)]
 pub struct Parents<N, E, Ix = DefaultIx> {
     pub(super) edge: EdgeIndex<Ix>,
     pub(super) node_weight: PhantomData<N>,

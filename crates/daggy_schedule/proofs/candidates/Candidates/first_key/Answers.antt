@@ -18,7 +18,7 @@ returns-clause-first g c =
     × AllByRecursion (Precedes g.K.Ord.cmp (r.0.0, number r.0.1)) z.items in
     let here : P (record { items = entries number items; capacity = heap_capacity c.self.inside.heap }) = (
       first_entry number items r low c.in_ok-first.ensures.lookup,
-      first_of_all g.met.K.Ord.total number g.met.Ix.IndexType.order r items
+      first_of_all g.met.K.Ord.total number r items
           (c.in_ok-first.ensures.greatest c.self.invariant),
     ) in
     let there = subst P c.self.view_is here in

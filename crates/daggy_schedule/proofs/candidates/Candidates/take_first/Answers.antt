@@ -15,5 +15,5 @@ returns-clause-taken g c =
 
 pub returns-clause-first : goal.returns-clause-first
 returns-clause-first g c =
-    first_of_all g.met.K.Ord.total g.Ix.IndexType.number g.met.Ix.IndexType.order c.in_ok-first.field-0 (heap_items c.pop.new.self)
+    first_of_all g.met.K.Ord.total g.Ix.IndexType.number c.in_ok-first.field-0 (heap_items c.pop.new.self)
     (c.in_ok-first.ensures.below_top c.self.invariant)
