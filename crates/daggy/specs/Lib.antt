@@ -14,7 +14,7 @@ pub use Rattle.daggy_guard.specs.EdgeBatch
 pub use Rattle.daggy_guard.specs.Extension
 pub use Rattle.daggy_guard.specs.Elements
 pub use Rattle.daggy_guard.specs.Parents
-pub use Rattle.daggy_walk.specs.Visit
+pub use Rattle.daggy_visit.specs.Visit
 pub use Rattle.daggy_walk.specs.Walking
 pub use Rattle.daggy_walk.specs.Adapters
 pub use Rattle.daggy_walk.specs.Leading
@@ -32,10 +32,10 @@ pub use Rattle.daggy_base.specs.Calls
 pub use Rattle.daggy_cells.specs.Raw
 pub use Rattle.daggy_stable.specs.Held
 pub use Rattle.daggy_base.specs.Ordered
-pub use Rattle.daggy_reduction.specs.Comparison
+pub use Rattle.daggy_redundant.specs.Comparison
 pub use Rattle.daggy_reduction.specs.SearchSpan
 pub use Rattle.daggy_reduction.specs.AnyWeights
-pub use Rattle.daggy_reduction.specs.KeptRoom
+pub use Rattle.daggy_redundant.specs.KeptRoom
 pub use Rattle.daggy_reduction.specs.Descendants
 pub use Rattle.daggy_search.specs.Room
 pub use Rattle.daggy_search.specs.Reversed

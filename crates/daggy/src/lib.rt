@@ -49,5 +49,6 @@ pub use daggy_dag::acyclic::{
 pub use daggy_graph::graph::lists::Edges;
 pub use daggy_guard::edge_indices::EdgeIndices;
 pub use daggy_stable_dag::stable_dag;
+pub use daggy_visit::visit;
+pub use daggy_walk::walker;
 pub use daggy_walk::walker::Walker;
-pub use daggy_walk::{visit, walker};

@@ -6,5 +6,5 @@ pub use daggy_reduction::affected::{affected, descendants};
 pub use daggy_reduction::blocks::redundant_edges_by_blocks;
 pub use daggy_reduction::bounded::redundant_edges_in;
 pub use daggy_reduction::reduction_laws::{reduction_is_least, reductions_are_alike};
-pub use daggy_reduction::redundant::redundant_edges;
+pub use daggy_redundant::redundant::redundant_edges;
 pub use daggy_search::{Reversed, Scratch, is_acyclic, reaches};

@@ -5,6 +5,7 @@ pub mod ListParts
 pub mod Copies
 pub mod CallsInTurn
 pub mod OutEdgesRead
+pub mod EdgesFrom
 pub mod Slots
 pub mod MappedSlots
 pub mod FullSlots

@@ -10,7 +10,7 @@ use Rattle.daggy_base.specs.WellFormed.{AreDistinct, IsWellFormed}
 use Rattle.daggy_base.specs.declared.index.Direction.TheVariants.{Incoming}
 use Rattle.daggy_base.proofs.Lists.{Unique, contains_mem, mem_contains, unique_from_distinct}
 use Rattle.daggy_order.proofs.MovedNodes.{unique_same}
-use Rattle.daggy_reduction.specs.Comparison.{IsAscending}
+use Rattle.daggy_redundant.specs.Comparison.{IsAscending}
 use Rattle.daggy_dag.specs.Walks.{rest_of_walk}
 use Rattle.daggy_dag.proofs.WalkSteps.{step_gives}
 

@@ -11,7 +11,7 @@ use Rattle.daggy_base.proofs.PathsWithEdge.{no_round}
 use Rattle.daggy_base.proofs.PathsWithNode.{bound_low}
 use Rattle.daggy_base.specs.Mapping.{MapsSlots, IsMapped, weight_in, with_weight}
 use Rattle.daggy_cells.proofs.MappingLemmas.{mapped_length}
-use Rattle.daggy_reduction.specs.Comparison.{HaveSameNodes, HaveSameReachability}
+use Rattle.daggy_redundant.specs.Comparison.{HaveSameNodes, HaveSameReachability}
 use Rattle.daggy_reduction.proofs.Canonical.{reach_same}
 use Rattle.daggy_base.specs.Ordered.{IsOrderOf}
 use Rattle.daggy_order.proofs.OrderLaws.{order_fewer}

@@ -9,7 +9,7 @@ use Rattle.std.proofs.lemmas.Option.{same_Some, unwrap_or-slice_get}
 use Rattle.std.proofs.lemmas.List.{append-nil, reverse-append, map-append, get_or-set_same, get_or-set_other, length-set}
 use Rattle.std.proofs.lemmas.List.Elements.{filter-append, filter_map-append}
 use Rattle.std.proofs.lemmas.List.Sorted.{Contains-permutation, IsPermutation-reverse, IsPermutation-sym}
-use Rattle.daggy_reduction.specs.Comparison.{IsAscending}
+use Rattle.daggy_redundant.specs.Comparison.{IsAscending}
 use Rattle.daggy_base.specs.Graph.{Graph, Edge, HasNode, HasEdge, edge_at, in_list, slot}
 use Rattle.daggy_base.specs.Adding.{NewEdge, with_edge, next_edge, next_slot}
 use Rattle.daggy_base.specs.Ordered.{IsOrderOf, place}

@@ -1,7 +1,7 @@
 -- What a dag keeps when edges go and its nodes stay.
 use Rattle.std.proofs.Common.{◌≡◌, ℕ, ◌≤◌, ◌↔◌, List, Option, Result, Ok, Err, OnOk, IsSome, sym, ap, subst, arith}
 use Rattle.daggy_base.specs.Graph.{Graph, HasNode, slot, bound_of}
-use Rattle.daggy_reduction.specs.Comparison.{JoinsAll}
+use Rattle.daggy_redundant.specs.Comparison.{JoinsAll}
 use Rattle.daggy_order.proofs.OrderLaws.{order_fewer}
 use Rattle.daggy_dag.proofs.OrderKept.{IsKept}
 

@@ -16,10 +16,7 @@ use Rattle.daggy_dag.specs.contracts.acyclic.cursors.EdgeWeightsMut.{the_row as 
 abbrev pub node_cursor_type : (N E Ix S : RattleType)
     → IndexMembers Ix.Denot → StoreMembers N.Denot E.Denot S.Denot → RattleType
 node_cursor_type N E Ix S m t =
-    node_weights_type (record { mir = named 1; lft = [] }) N E Ix S
-    (record { number = m.number; of = m.of; greatest = m.greatest; of_number = m.of_number }) (record { cmp = m.cmp })
-    (record { eq = m.eq }) (record { partial_cmp = m.partial_cmp }) (record { hash_input = m.hash_input })
-    (record { debug_output = m.debug_output })
+    node_weights_type (record { mir = named 1; lft = [] }) N E Ix S m
     (record { KIND = t.KIND; node_written = t.node_written; edge_written = t.edge_written })
     (record { graph = t.graph; looks = t.looks })
 
@@ -27,10 +24,7 @@ node_cursor_type N E Ix S m t =
 abbrev pub edge_cursor_type : (N E Ix S : RattleType)
     → IndexMembers Ix.Denot → StoreMembers N.Denot E.Denot S.Denot → RattleType
 edge_cursor_type N E Ix S m t =
-    edge_weights_type (record { mir = named 1; lft = [] }) N E Ix S
-    (record { number = m.number; of = m.of; greatest = m.greatest; of_number = m.of_number }) (record { cmp = m.cmp })
-    (record { eq = m.eq }) (record { partial_cmp = m.partial_cmp }) (record { hash_input = m.hash_input })
-    (record { debug_output = m.debug_output })
+    edge_weights_type (record { mir = named 1; lft = [] }) N E Ix S m
     (record { KIND = t.KIND; node_written = t.node_written; edge_written = t.edge_written })
     (record { graph = t.graph; looks = t.looks })
 

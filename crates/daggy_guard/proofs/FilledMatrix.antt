@@ -6,7 +6,7 @@ use Rattle.std.specs.Prelude.{◌↔◌, IsSome, unwrap_or}
 use Rattle.daggy_base.specs.Graph.{Graph, Edge, edge_at, node_bound, edge_bound}
 use Rattle.daggy_base.specs.Path.{AreJoined}
 use Rattle.daggy_base.proofs.OutEdgesRead.{below_bound}
-use Rattle.daggy_walk.specs.Visit.{HasPair}
+use Rattle.daggy_visit.specs.Visit.{HasPair}
 
 -- an edge whose index is below n leads from u to v
 abbrev pub AreJoinedBelow : {N E : Type 0} → Graph N E → ℕ → ℕ → ℕ → Type 0

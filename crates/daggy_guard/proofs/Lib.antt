@@ -11,7 +11,5 @@ pub mod ExtendAllLoop
 pub mod FilledMatrix
 pub mod PackedSort
 pub mod StandingAfterEdge
-pub mod ParentsAsked
-pub mod KeptBefore
 pub mod ParentsInTurn
 pub mod ParentsTakenBack

@@ -4,8 +4,8 @@ use Rattle.std.proofs.Common.{length, set, take, drop, map, Result, Ok, Err, OnO
 use Rattle.std.proofs.Common.{IfNone, IsSome, get_or, refl, sym, ap, subst, ◌∙◌, arith}
 use Rattle.std.specs.List.{Contains}
 use Rattle.std.proofs.lemmas.Bool.{eqb-true, eq-eqb, ne_eqb}
-use Rattle.std.proofs.lemmas.List.{take-append-drop, length-take, length-set}
-use Rattle.daggy_base.specs.Graph.{Graph, HasNode, slot, edge_count}
+use Rattle.std.proofs.lemmas.List.{length-take, length-set}
+use Rattle.daggy_base.specs.Graph.{Graph, HasNode, slot}
 use Rattle.daggy_base.specs.Path.{IsAcyclic}
 use Rattle.daggy_base.specs.Adding.{with_node, with_edge, with_neighbor, next_node}
 use Rattle.daggy_base.specs.Removal.{without, renamed, without_edge, without_node}
@@ -16,15 +16,14 @@ use Rattle.daggy_base.specs.WellFormed.{IsWellFormed, IsIsolated}
 use Rattle.daggy_base.specs.Graph.{IsCompact}
 use Rattle.daggy_base.specs.declared.index.Direction.{Direction}
 use Rattle.daggy_base.specs.declared.index.Direction.TheVariants.{Outgoing, Incoming}
-use Rattle.daggy_base.proofs.Lists.{Unique, contains_mem, mem_contains, unique_right, unique_from_distinct}
+use Rattle.daggy_base.proofs.Lists.{contains_mem, mem_contains}
 use Rattle.daggy_base.proofs.PathsWithNewNode.{not_before}
 use Rattle.daggy_base.proofs.PathsWithNode.{bound_low}
-use Rattle.daggy_base.proofs.OutEdgesRead.{lists_few, below_bound}
+use Rattle.daggy_base.proofs.OutEdgesRead.{below_bound}
 use Rattle.daggy_base.proofs.FullSlots.{full_from}
-use Rattle.daggy_base.specs.Ordered.{IsOrderOf, place, stretch, edges_from}
-use Rattle.daggy_base.proofs.Sorted.{unique_left, mem_filter, filter_mem}
+use Rattle.daggy_base.specs.Ordered.{IsOrderOf, place}
+use Rattle.daggy_base.proofs.Sorted.{mem_filter, filter_mem}
 use Rattle.daggy_base.proofs.ListParts.{is_held, held_is}
-use Rattle.daggy_order.proofs.BoundedSearch.{lists_length}
 use Rattle.daggy_order.proofs.OrderLaws.{acyclic_from_order, order_with_edge, order_with_node_last}
 use Rattle.daggy_order.proofs.OrderLaws.{order_with_node_first, order_before_node, order_with_child, order_with_parent}
 use Rattle.daggy_order.proofs.OrderLaws.{order_without_edge, order_without_node, nodes_isolated, none_renamed}
@@ -37,19 +36,6 @@ order_kept {N} {E} {old} {new} {order} ord same = let P : Graph N E → Type 0 =
 
 pub acyclic_by : {N E : Type 0} {old new : Graph N E} {order : List ℕ} → IsOrderOf old order → new ≡ old → IsAcyclic new
 acyclic_by {order = order} ord same = acyclic_from_order order (order_kept ord same)
-
--- the edges that leave a stretch of it
-pub few_edges : {N E : Type 0} {end : ℕ} {g : Graph N E} {order : List ℕ}
-    → IsWellFormed end g → IsOrderOf g order → (low high : ℕ) → edges_from g (stretch order low high) ≤ edge_count g
-few_edges {N} {E} {end} {g} {order} f ord low high =
-    let P : List ℕ → Type 0 = λ z. Unique z in
-    let front : Unique (take high order) =
-    unique_left (take high order) (drop high order)
-    (subst P (sym (take-append-drop high order)) (unique_from_distinct order ord.once)) in
-    let part : Unique (drop low (take high order)) =
-    unique_right (take low (take high order)) (drop low (take high order))
-    (subst P (sym (take-append-drop low (take high order))) front) in
-    omega (arith, lists_length g (drop low (take high order)), lists_few end g f (drop low (take high order)) part)
 
 -- an edge is added, or none
 pub order_of_edge : {R F N E : Type 0} (r : Result R F) {old at new : Graph N E} {order : List ℕ} (a b : ℕ) (w : E)

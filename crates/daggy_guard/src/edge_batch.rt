@@ -16,11 +16,12 @@ ghost use Rattle.daggy_guard.specs.BatchProgress.{item_looks, looks_left, refusa
 ghost use Rattle.daggy_guard.specs.declared.edge_batch.Standing.TheVariants.{Closed};
 
 use crate::edge_indices::EdgeIndices;
-use crate::guard::{Guarded, make_way};
+use crate::guard::Guarded;
 use crate::packed::sort;
 use daggy_base::error::{EdgesError, WouldCycle};
 use daggy_base::index::{EdgeIndex, IndexType, NodeIndex};
 use daggy_base::store::Store;
+use daggy_edge_order::edge_order::order_new_edge;
 use daggy_order::order::Order;
 use daggy_search::Scratch;
 
@@ -145,7 +146,7 @@ fn order_item<Ix: IndexType, S: Store<Ix>>(
     if spared && is_long(len, store.node_slots(), store.edge_slots()) {
         return Standing::Left;
     }
-    if make_way(store, order, scratch, a, b) {
+    if order_new_edge(store, order, scratch, a, b) {
         standing
     } else {
         Standing::Closed

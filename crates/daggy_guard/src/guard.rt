@@ -1,10 +1,10 @@
 //! The changes that keep any store acyclic. Both kinds of dag are made of them.
 ghost use Rattle.std.specs.Prelude.{◌≡◌, ℕ, ◌+◌, ◌<◌, ◌≤◌, ◌↔◌, ◌⊎◌, true, false, List, Contains};
 ghost use Rattle.std.specs.Prelude.{map, Err, None, IfOk, OnOk, IfErr, OnErr, OnSome, IfSome};
-ghost use Rattle.std.specs.Prelude.{IfNone, IsOkAnd, IsTrue};
+ghost use Rattle.std.specs.Prelude.{IfNone, IsOkAnd};
 ghost use Rattle.daggy_base.specs.Graph.{Graph, HasNode, node_weight, node_count, edge_count};
 ghost use Rattle.daggy_base.specs.Graph.{node_bound, empty, IsCompact};
-ghost use Rattle.daggy_base.specs.Path.{AreJoined, Reaches, IsAcyclic};
+ghost use Rattle.daggy_base.specs.Path.{Reaches, IsAcyclic};
 ghost use Rattle.daggy_base.specs.Adding.{next_node, next_edge, with_node, with_edge, with_link};
 ghost use Rattle.daggy_base.specs.Adding.{with_neighbor, ComesFirst};
 ghost use Rattle.daggy_base.specs.Finding.{find_edge as edge_between};
@@ -12,7 +12,7 @@ ghost use Rattle.daggy_base.specs.Weights.{edge_weight, with_edge_weight};
 ghost use Rattle.daggy_base.specs.Removal.{without, renamed, without_edge, without_node};
 ghost use Rattle.daggy_base.specs.WellFormed.{IsDag};
 ghost use Rattle.daggy_base.specs.declared.kind.Kind.TheVariants.{Compact};
-ghost use Rattle.daggy_base.specs.Ordered.{IsOrderOf, place};
+ghost use Rattle.daggy_base.specs.Ordered.{IsOrderOf};
 ghost use Rattle.daggy_guard.specs.NewNode.{IsAddedNode, with_end};
 ghost use Rattle.daggy_base.specs.declared.error.NodeError.TheVariants.{Memory as NodeMemory};
 ghost use Rattle.daggy_base.specs.declared.error.EdgeError.TheVariants.{WouldCycle as ByCycle};
@@ -22,10 +22,10 @@ ghost use Rattle.daggy_base.specs.declared.error.ChildError.TheVariants.{Memory 
 use daggy_base::error::{ChildError, EdgeError, NodeError, WouldCycle};
 use daggy_base::index::{Direction, EdgeIndex, IndexType, NodeIndex};
 use daggy_base::store::Store;
-use daggy_order::order::{Order, order_edge};
+use daggy_edge_order::edge_order::order_new_edge;
+use daggy_order::order::Order;
 use daggy_search::Scratch;
-use daggy_walk::prefetch::{PREFETCH_FROM, touch_neighbors};
-use daggy_walk::walk::step;
+use daggy_visit::prefetch::{PREFETCH_FROM, touch_neighbors};
 use std::alloc::{AllocError, Global};
 use std::marker::{Model, PhantomData};
 
@@ -147,7 +147,7 @@ impl<Ix: IndexType, S: Store<Ix>> Guarded<Ix, S> {
             → self.new.looks ≡ self.old.looks }
     {
         self.store.invariant();
-        if !make_way(&mut self.store, &mut self.order, &mut self.scratch, a, b) {
+        if !order_new_edge(&mut self.store, &mut self.order, &mut self.scratch, a, b) {
             return Err(EdgeError::WouldCycle(WouldCycle(weight)));
         }
         self.store.add_edge(a, b, weight)
@@ -353,90 +353,6 @@ fn put_node<Ix: IndexType, S: Store<Ix>>(
             Err(NodeError::Memory(weight))
         }
     }
-}
-
-// Whether an edge leads to a node.
-#[inline]
-fn has_parents<Ix: IndexType, S: Store<Ix>>(store: &S, n: NodeIndex<Ix>) -> bool
-    ensures { result ≡ false → (u : ℕ) → ¬ AreJoined (S.graph store.now) u (Ix.number n) }
-{
-    store.invariant();
-    store.first_edge(n, Direction::Incoming).index() != EdgeIndex::<Ix>::end().index()
-}
-
-// A node with this many parents or more is searched for.
-const FEW_PARENTS: usize = 4;
-
-// Whether all parents of `a` precede `b`. If there are `FEW_PARENTS` or more, the answer is false.
-fn parents_stand_before<Ix: IndexType, S: Store<Ix>>(
-    store: &S,
-    order: &Order<Ix>,
-    a: NodeIndex<Ix>,
-    b: NodeIndex<Ix>,
-) -> bool
-    requires exists { HasNode (S.graph store.now) (Ix.number b) }
-    requires ordered { IsOrderOf (S.graph store.now) order.now }
-    ensures { IsTrue result → (u : ℕ) → AreJoined (S.graph store.now) u (Ix.number a)
-        → place order.now u < place order.now (Ix.number b) }
-{
-    store.invariant();
-    let mut cursor = store.first_edge(a, Direction::Incoming);
-    'parents: for _i in 0..FEW_PARENTS {
-        let Some((_e, parent)) = step(store, Direction::Incoming, &mut cursor) else {
-            return true;
-        };
-        if !order.stands_before(parent, b) {
-            return false;
-        }
-    }
-    false
-}
-
-// Updates the order for a new edge from `a` to `b`. Returns false if a path leads from `b` to `a`.
-//
-// If no edge leads to `a` it is moved to the front, and if its few parents all precede `b` it is
-// moved right before `b`, without a search. So nodes that are added after their children, as when
-// each one depends on older ones, need no search.
-#[inline]
-pub(crate) fn make_way<Ix: IndexType, S: Store<Ix>>(
-    store: &mut S,
-    order: &mut Order<Ix>,
-    scratch: &mut Scratch<Ix>,
-    a: NodeIndex<Ix>,
-    b: NodeIndex<Ix>,
-) -> bool
-    requires parent { HasNode (S.graph store.old) (Ix.number a) }
-    requires child { HasNode (S.graph store.old) (Ix.number b) }
-    requires fits { node_bound (S.graph store.old) ≤ scratch.old.nodes }
-    requires ordered { IsOrderOf (S.graph store.old) order.old }
-    ensures decided { result ≡ false ↔ Reaches (S.graph store.old) (Ix.number b) (Ix.number a) }
-    ensures ordered { IsOrderOf (S.graph store.old) order.new }
-    ensures before { result ≡ true → place order.new (Ix.number a) < place order.new (Ix.number b) }
-    ensures kept_before { result ≡ true
-        → (u : ℕ) → place order.old u < place order.old (Ix.number b)
-        → place order.new u < place order.new (Ix.number b) }
-    ensures same { S.graph store.new ≡ S.graph store.old }
-    ensures looked { S.looks store.old ≤ S.looks store.new }
-    ensures counted { S.looks store.new ≤ S.looks store.old + edge_count (S.graph store.old) }
-    ensures ready { Reaches (S.graph store.old) (Ix.number a) (Ix.number b)
-        → S.looks store.new ≡ S.looks store.old }
-    ensures same_capacity { scratch.new ≡ scratch.old }
-{
-    store.invariant();
-    if order.stands_before(a, b) {
-        return true;
-    }
-    if a.index() != b.index() {
-        if !has_parents(store, a) {
-            order.move_first(a);
-            return true;
-        }
-        if parents_stand_before(store, order, a, b) {
-            order.move_before(a, b);
-            return true;
-        }
-    }
-    order_edge(store, order, a, b, scratch)
 }
 
 // Adds an edge from `n` to `new`, or from `new` to `n`.

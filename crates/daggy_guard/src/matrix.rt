@@ -1,11 +1,11 @@
 //! The matrix of the pairs of nodes that an edge joins, for both kinds of dag.
 ghost use Rattle.std.specs.Prelude.{ℕ, ◌↔◌, IfOk};
 ghost use Rattle.daggy_base.specs.Path.{AreJoined};
-ghost use Rattle.daggy_walk.specs.Visit.{HasPair};
+ghost use Rattle.daggy_visit.specs.Visit.{HasPair};
 
 use daggy_base::index::{EdgeIndex, IndexType};
 use daggy_base::store::Store;
-use daggy_walk::visit::AdjMatrix;
+use daggy_visit::visit::AdjMatrix;
 use std::alloc::{AllocError, Global};
 
 /// The pairs of nodes that an edge of the store joins.

@@ -9,9 +9,9 @@ ghost use Rattle.daggy_guard.specs.BatchProgress.{IsBatchSoFar};
 ghost use Rattle.daggy_guard.specs.EdgeBatch.{with_edges, new_edges};
 ghost use Rattle.daggy_guard.specs.Parents.{edges_to, ReachesParent};
 
-use crate::guard::make_way;
 use daggy_base::index::{EdgeIndex, IndexType, NodeIndex};
 use daggy_base::store::Store;
+use daggy_edge_order::edge_order::order_new_edge;
 use daggy_order::order::Order;
 use daggy_search::Scratch;
 use std::alloc::Global;
@@ -42,7 +42,7 @@ pub fn make_way_for_parents<Ix: IndexType, S: Store<Ix>>(
 {
     'items: for i in 0..items.len() {
         let parent = items[i].0;
-        if !make_way(store, order, scratch, parent, n) {
+        if !order_new_edge(store, order, scratch, parent, n) {
             return false;
         }
     }

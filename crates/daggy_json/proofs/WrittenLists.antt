@@ -9,7 +9,7 @@ use Rattle.daggy_base.specs.WellFormed.{IsWellFormed}
 use Rattle.serde_json.specs.View.{view}
 use Rattle.serde_json.specs.declared.value.Value.{Value}
 use Rattle.daggy_json.specs.Document.{whole}
-use Rattle.daggy_walk.proofs.ListCursors.{IsAt, at_element, at_edge, at_whole, at_front, at_next}
+use Rattle.daggy_visit.proofs.ListCursors.{IsAt, at_element, at_edge, at_whole, at_front, at_next}
 
 -- as many numbers of the list were written as there are values, and the cursor is at the one that follows
 pub record Listed (end : ℕ) (list : List ℕ) (vs : List Value) (e : ℕ) : Type 0 where

@@ -12,7 +12,7 @@ use crate::text::TextWriter;
 use crate::values::write_weight;
 use daggy_base::index::{Direction, EdgeIndex, IndexType, NodeIndex};
 use daggy_base::store::Store;
-use daggy_walk::prefetch::{PREFETCH_FROM, touch_lists};
+use daggy_visit::prefetch::{PREFETCH_FROM, touch_lists};
 use json::Token;
 use serde_json::Value;
 use std::alloc::AllocError;

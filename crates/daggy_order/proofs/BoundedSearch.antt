@@ -3,54 +3,21 @@ use Rattle.std.proofs.Common.{◌≡◌, ◌≢◌, ℕ, ◌+◌, ◌<◌, ◌�
 use Rattle.std.proofs.Common.{get_or, set, take, drop, refl, sym, ap, subst, ◌∙◌, arith}
 use Rattle.std.specs.List.{Contains}
 use Rattle.std.proofs.lemmas.Bool.{false≢true}
-use Rattle.std.proofs.lemmas.List.{length-append, length-set, length-take-le, take_more_set, drop_more, drop-append-le}
+use Rattle.std.proofs.lemmas.List.{length-set, length-take-le, take_more_set, drop_more, drop-append-le}
 use Rattle.std.proofs.lemmas.List.{get_or-take}
 use Rattle.daggy_base.specs.Graph.{Graph, HasNode, out_list}
-use Rattle.daggy_base.specs.Path.{AreJoined, IsPath, Reaches, end_of}
+use Rattle.daggy_base.specs.Path.{AreJoined, Reaches}
 use Rattle.daggy_base.specs.Ordered.{edges_from}
 use Rattle.daggy_base.specs.WellFormed.{IsWellFormed}
 use Rattle.daggy_base.specs.Look.{IsLook}
-use Rattle.daggy_base.proofs.Lists.{Mem, Unique, mem_out, mem_left, mem_right, mem_cases, unique_append, unique_right}
-use Rattle.daggy_base.proofs.Lists.{fewer_than, split_at}
+use Rattle.daggy_base.proofs.Lists.{Mem, Unique, mem_left, mem_right, mem_cases, unique_append, unique_right}
+use Rattle.daggy_base.proofs.Lists.{fewer_than}
 use Rattle.daggy_base.proofs.Lists.{contains_mem}
-use Rattle.daggy_base.proofs.OutEdgesRead.{lists_of, read_part}
+use Rattle.daggy_base.proofs.OutEdgesRead.{read_part}
+use Rattle.daggy_base.proofs.EdgesFrom.{edges_few, lists_length, reached_exists}
 use Rattle.daggy_search.proofs.SearchProgress.{Met, reaches_stays, marked_within, set_marked}
 use Rattle.daggy_search.proofs.SearchState.{Start, Reading, Searching, all_met_here, from_marked, only_reached}
 use Rattle.daggy_search.proofs.SearchState.{child_found}
-
--- sums over the nodes of a list
-edges_mid : {N E : Type 0} (g : Graph N E) (p : List ℕ) (x : ℕ) (q : List ℕ)
-    → edges_from g (p ++ x ∷ q) ≡ length (out_list g x) + edges_from g (p ++ q)
-edges_mid g [] x q = refl
-edges_mid g (y ∷ p) x q = let rest = edges_mid g p x q in omega arith
-
--- differing members of a list have no more edges than all of it
-pub edges_few : {N E : Type 0} (g : Graph N E) (xs ys : List ℕ)
-    → Unique xs → ((x : ℕ) → Mem x xs → Mem x ys) → edges_from g xs ≤ edges_from g ys
-edges_few g [] ys u h = omega arith
-edges_few {N} {E} g (x ∷ xs) ys u h =
-    let s = split_at ys x (h x (inl refl)) in
-    let rest : edges_from g xs ≤ edges_from g (s.0 ++ s.1) = edges_few g xs (s.0 ++ s.1) u.1 (λ y m.
-    let P : List ℕ → Type 0 = λ z. Mem y z in
-    elim (mem_out s.0 s.1 x y (subst P s.2 (h y (inr m)))) [
-      | inl e ↦ absurd (u.0 (let Q : ℕ → Type 0 = λ z. Mem z xs in subst Q e m))
-      | inr b ↦ b
-    ]) in
-    let whole : edges_from g ys ≡ length (out_list g x) + edges_from g (s.0 ++ s.1) =
-    ap (edges_from g) s.2 ∙ edges_mid g s.0 x s.1 in
-    omega arith
-
--- so many edges stand in their lists
-pub lists_length : {N E : Type 0} (g : Graph N E) (xs : List ℕ) → length (lists_of g xs) ≡ edges_from g xs
-lists_length g [] = refl
-lists_length g (x ∷ xs) = let rest = lists_length g xs in omega (arith, length-append (out_list g x) (lists_of g xs))
-
-last_exists : {N E : Type 0} (g : Graph N E) (u : ℕ) (rest : List ℕ) → IsPath g (u ∷ rest) → HasNode g (end_of u rest)
-last_exists g u [] p = p
-last_exists g u (v ∷ rest) p = last_exists g v rest p.2
-
-pub reached_exists : {N E : Type 0} (g : Graph N E) (u v : ℕ) → Reaches g u v → HasNode g v
-reached_exists g u v r = let P : ℕ → Type 0 = λ z. HasNode g z in subst P r.2 (last_exists g u r.0 r.1)
 
 -- the marked numbers, in a list
 pub record Finding (marks : List Bool) (found : List ℕ) (count : ℕ) : Type 0 where

@@ -8,7 +8,7 @@ use Rattle.daggy_base.specs.WellFormed.{IsWellFormed}
 use Rattle.daggy_base.proofs.OutEdgesRead.{joins}
 use Rattle.daggy_search.specs.declared.arcs.Arc.{Arc}
 use Rattle.daggy_search.specs.declared.arcs.Segment.{Segment}
-use Rattle.daggy_reduction.specs.Flags.{IsFlagged}
+use Rattle.daggy_redundant.specs.Flags.{IsFlagged}
 use Rattle.daggy_reduction.proofs.BlockRows.{AreRows, IsRow}
 use Rattle.daggy_reduction.specs.Blocks.{IsPlaced, HasBits, HasBit, AreArcsOf, AreArcs, AreLaidOut, AreLeft, HasArcTo}
 use Rattle.daggy_reduction.specs.Blocks.{ArePassedOn, MarksArcs, is_in_row, segment_at, LeadsInto}

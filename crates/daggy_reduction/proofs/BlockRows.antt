@@ -11,7 +11,7 @@ use Rattle.daggy_base.proofs.Lists.{Unique, mem_at, place_of, mem_contains, cont
 use Rattle.daggy_base.proofs.OutEdgesRead.{joins}
 use Rattle.daggy_base.proofs.PathsWithEdge.{reaches_itself, reaches_before, reaches_on}
 use Rattle.daggy_search.specs.declared.arcs.Arc.{Arc}
-use Rattle.daggy_reduction.specs.Flags.{IsFlagged}
+use Rattle.daggy_redundant.specs.Flags.{IsFlagged}
 use Rattle.std.specs.Prelude.{slice_index, slice_index_or}
 use Rattle.daggy_reduction.specs.Descendants.{IsDescendantOf}
 use Rattle.daggy_search.specs.declared.arcs.Segment.{Segment}

@@ -6,7 +6,7 @@ use Rattle.daggy_base.specs.Graph.{Graph}
 use Rattle.daggy_base.specs.Reduction.{IsBelow, IsRedundant}
 use Rattle.daggy_base.specs.WellFormed.{IsWellFormed}
 use Rattle.daggy_base.proofs.OutEdgesRead.{joins}
-use Rattle.daggy_reduction.specs.Flags.{IsFlagged}
+use Rattle.daggy_redundant.specs.Flags.{IsFlagged}
 use Rattle.daggy_search.specs.declared.arcs.Arc.{Arc}
 use Rattle.daggy_search.specs.declared.arcs.Segment.{Segment}
 use Rattle.daggy_reduction.specs.Blocks.{IsPlaced, AreArcs, LeadsInto}

@@ -12,18 +12,18 @@ use Rattle.daggy_base.proofs.PathsWithEdge.{reaches_itself, reaches_before, no_r
 use Rattle.daggy_search.proofs.SearchProgress.{reaches_stays}
 use Rattle.daggy_base.proofs.OutEdgesRead.{listed}
 use Rattle.daggy_base.specs.Ordered.{IsOrderOf, place, stretch}
-use Rattle.daggy_order.proofs.BoundedSearch.{reached_exists}
+use Rattle.daggy_base.proofs.EdgesFrom.{reached_exists}
 use Rattle.daggy_order.proofs.OrderLaws.{acyclic_from_order}
 use Rattle.daggy_base.proofs.Sorted.{place_at}
 use Rattle.daggy_base.proofs.ListParts.{in_stretch}
-use Rattle.daggy_reduction.specs.Closure.{behind}
+use Rattle.daggy_redundant.specs.Closure.{behind}
 use Rattle.daggy_reduction.specs.SearchSpan.{child_place, latest, last_place, edges_spanned}
 use Rattle.daggy_reduction.proofs.QueuedChildren.{First, Children, Beginning, children_found}
-use Rattle.daggy_reduction.proofs.QueueState.{Start, Reading, Draining, rest_nothing}
-use Rattle.daggy_reduction.proofs.FlaggedRedundant.{joined_exist}
-use Rattle.daggy_reduction.proofs.Paths.{reaches_one, round_through}
-use Rattle.daggy_reduction.proofs.QueueProgress.{Task, Queueing, looked_from, all_reached, all_met}
-use Rattle.daggy_reduction.proofs.LongerWays.{last_step}
+use Rattle.daggy_redundant.proofs.QueueState.{Start, Reading, Draining, rest_nothing}
+use Rattle.daggy_redundant.proofs.FlaggedRedundant.{joined_exist}
+use Rattle.daggy_redundant.proofs.Paths.{reaches_one, round_through}
+use Rattle.daggy_redundant.proofs.QueueProgress.{Task, Queueing, looked_from, all_reached, all_met}
+use Rattle.daggy_redundant.proofs.LongerWays.{last_step}
 
 -- a node between two places is in that stretch
 in_places : (xs : List ℕ) (i j n : ℕ) → Mem n xs → i ≤ place xs n → place xs n < j → Mem n (stretch xs i j)

@@ -4,7 +4,7 @@ use Rattle.std.proofs.Common.{ℕ, ◌↔◌, List, [], ◌∷◌}
 use Rattle.daggy_base.specs.Graph.{Graph, HasNode}
 use Rattle.daggy_base.specs.Path.{AreJoined, IsPath, IsAcyclic}
 use Rattle.daggy_base.specs.Reduction.{IsBelow, ReachesIndirectly}
-use Rattle.daggy_reduction.specs.Comparison.{HaveSameNodes, JoinSamePairs, HaveSameReachability, ReachAll}
+use Rattle.daggy_redundant.specs.Comparison.{HaveSameNodes, JoinSamePairs, HaveSameReachability, ReachAll}
 use Rattle.daggy_reduction.proofs.LostPairs.{LosesRoundPairs}
 use Rattle.daggy_reduction.proofs.ReachabilityKept.{reached_before, reached_after}
 use Rattle.daggy_reduction.proofs.CoverPairs.{cover_joined, cover_same, joined_cover, cover_kept}

@@ -10,7 +10,7 @@ use Rattle.daggy_base.specs.Look.{IsLook}
 use Rattle.daggy_base.proofs.OutEdgesRead.{LookedTo, below_bound, read_part, all_read, has_edge, child_exists}
 use Rattle.daggy_base.proofs.OutEdgesRead.{child_joined, next_cursor, looked_more}
 use Rattle.daggy_search.proofs.SearchProgress.{set_marked}
-use Rattle.daggy_reduction.specs.Comparison.{JoinsAll}
+use Rattle.daggy_redundant.specs.Comparison.{JoinsAll}
 
 -- The first edges that leave a node were looked at, and e is the next one. P holds of their children.
 pub record Looking {N E : Type 0} (end : ℕ) (g₀ g : Graph N E) (u e looks₀ looks : ℕ) (P : ℕ → Type 0) : Type 0 where

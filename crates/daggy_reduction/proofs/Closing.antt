@@ -14,7 +14,7 @@ use Rattle.daggy_base.proofs.OutEdgesRead.{joins, below_bound, read_whole, read_
 use Rattle.daggy_base.proofs.OutEdgesRead.{next_cursor, lists_of, lists_few}
 use Rattle.daggy_base.proofs.PathsWithEdge.{reaches_itself}
 use Rattle.daggy_base.proofs.Sorted.{place_left, place_right, unique_cross}
-use Rattle.daggy_walk.specs.Visit.{HasPair}
+use Rattle.daggy_visit.specs.Visit.{HasPair}
 use Rattle.daggy_reduction.specs.Descendants.{IsDescendantOf}
 use Rattle.daggy_reduction.proofs.ListedArcs.{Passed, passed_step, passed_whole}
 

@@ -5,9 +5,9 @@ use Rattle.daggy_base.specs.Graph.{Graph, HasNode}
 use Rattle.daggy_base.specs.Path.{AreJoined, IsPath, Reaches, IsAcyclic, end_of}
 use Rattle.daggy_base.specs.Reduction.{IsBelow, Covers}
 use Rattle.daggy_base.proofs.PathsWithEdge.{reaches_itself, no_round}
-use Rattle.daggy_reduction.specs.Comparison.{HaveSameReachability}
+use Rattle.daggy_redundant.specs.Comparison.{HaveSameReachability}
 use Rattle.daggy_reduction.proofs.LostPairs.{LosesRoundPairs}
-use Rattle.daggy_reduction.proofs.Paths.{has_first, reaches_one, round_parts, round_through}
+use Rattle.daggy_redundant.proofs.Paths.{has_first, reaches_one, round_parts, round_through}
 
 -- a cover is joined, in whichever graph
 pub cover_joined : {N E : Type 0} (g : Graph N E) (u v : ℕ) → Covers g u v → AreJoined g u v

@@ -13,7 +13,7 @@ use Rattle.daggy_base.proofs.Lists.{Mem, mem_left, mem_right, mem_cases, mem_at,
 use Rattle.daggy_base.proofs.OutEdgesRead.{below_bound}
 use Rattle.daggy_base.proofs.PathsWithNode.{bound_low}
 use Rattle.daggy_base.proofs.PathsWithoutEdge.{slot_put}
-use Rattle.daggy_reduction.specs.Comparison.{IsAscending}
+use Rattle.daggy_redundant.specs.Comparison.{IsAscending}
 use Rattle.daggy_reduction.proofs.RemainingEdges.{left_below, below_first, descending_rest}
 
 mem_turned : (x : ℕ) (xs : List ℕ) → Mem x xs → Mem x (reverse xs)

@@ -7,14 +7,14 @@ use Rattle.daggy_base.specs.declared.kind.Kind.{Kind}
 use Rattle.daggy_base.specs.declared.kind.Kind.TheVariants.{Stable}
 use Rattle.daggy_base.specs.WellFormed.{IsWellFormed}
 use Rattle.daggy_base.specs.Reduction.{IsReduction}
-use Rattle.daggy_reduction.specs.Comparison.{JoinsAll, HaveSameReachability, JoinsCovers, JoinsOthers}
-use Rattle.daggy_reduction.specs.Comparison.{IsLeast, HasNoneRedundant, IsCanonical}
+use Rattle.daggy_redundant.specs.Comparison.{JoinsAll, HaveSameReachability, JoinsCovers, JoinsOthers}
+use Rattle.daggy_redundant.specs.Comparison.{IsLeast, HasNoneRedundant, IsCanonical}
 use Rattle.daggy_reduction.proofs.LostPairs.{LosesRoundPairs}
 use Rattle.daggy_reduction.proofs.RemainingEdges.{reduction_loses}
 use Rattle.daggy_reduction.proofs.ReachabilityKept.{same_reachability}
 use Rattle.daggy_reduction.proofs.CoverPairs.{joined_exactly}
 use Rattle.daggy_reduction.proofs.Canonical.{least, nothing_left, alike_exactly}
-use Rattle.daggy_reduction.proofs.FlaggedRedundant.{joined_exist}
+use Rattle.daggy_redundant.proofs.FlaggedRedundant.{joined_exist}
 use Rattle.daggy_reduction.proofs.EdgesRemovedDownward.{keeps_indices}
 
 module _ {N E : Type 0} {limit : ℕ} (kind : Kind) (roots : List ℕ) (old new : Graph N E) (acyclic : IsAcyclic old)

@@ -1,17 +1,8 @@
-pub mod Paths
 pub mod LostPairs
 pub mod ReachabilityKept
 pub mod CoverPairs
 pub mod Canonical
 pub mod RemainingEdges
-pub mod QueueProgress
-pub mod QueueState
-pub mod LongerWays
-pub mod FlaggedChildren
-pub mod GatheredFlags
-pub mod FlaggedRedundant
-pub mod QueuedRoots
-pub mod SweptNodes
 pub mod EdgesRemovedDownward
 pub mod Laws
 pub mod Children
@@ -29,7 +20,6 @@ pub mod BlockRows
 pub mod BlockFlags
 pub mod PlacedNodes
 pub mod BlockSweep
-pub mod FoundEdges
 pub mod NotedEdges
 pub mod SpanSums
 pub mod ListedChildren

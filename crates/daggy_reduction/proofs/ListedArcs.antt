@@ -18,7 +18,7 @@ use Rattle.daggy_reduction.specs.Blocks.{IsPlaced, IsIn, AreArcsOf, AreArcs, Are
 use Rattle.daggy_reduction.proofs.SegmentArcs.{in_step, in_none, in_same, arcs_same}
 use Rattle.daggy_reduction.proofs.LaidOut.{at_set_same, at_set_other}
 use Rattle.daggy_reduction.proofs.BlockRows.{unique_front}
-use Rattle.daggy_reduction.proofs.QueueProgress.{lists_append}
+use Rattle.daggy_redundant.proofs.QueueProgress.{lists_append}
 
 -- one of the first edges that leave u, with its child, is of a kind
 abbrev pub Passed : {N E : Type 0} → (end : ℕ) → Graph N E → (u passed : ℕ) → (ℕ → ℕ → Type 0) → Type 0

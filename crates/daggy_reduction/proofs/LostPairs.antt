@@ -3,7 +3,7 @@ use Rattle.std.specs.Prelude.{ℕ, ◌⊎◌, List}
 use Rattle.daggy_base.specs.Graph.{Graph}
 use Rattle.daggy_base.specs.Path.{AreJoined}
 use Rattle.daggy_base.specs.Reduction.{IsBelow, ReachesIndirectly}
-use Rattle.daggy_reduction.specs.Comparison.{HaveSameNodes}
+use Rattle.daggy_redundant.specs.Comparison.{HaveSameNodes}
 
 -- new has the nodes of old and joins the pairs that old joins, except those below the roots that a longer path connects
 -- too

@@ -6,9 +6,9 @@ use Rattle.std.proofs.lemmas.List.{get_or-replicate, get_or_past, length-replica
 use Rattle.std.proofs.Common.{length-set}
 use Rattle.daggy_search.specs.declared.arcs.Arc.{Arc}
 use Rattle.daggy_search.specs.declared.arcs.Segment.{Segment}
-use Rattle.daggy_reduction.specs.Flags.{IsFlagged}
+use Rattle.daggy_redundant.specs.Flags.{IsFlagged}
 use Rattle.daggy_reduction.specs.Blocks.{HasBits, HasBit, IsIn, HasArcTo, ArePassedOn, MarksArcs, AreLeft}
-use Rattle.daggy_reduction.proofs.FlaggedChildren.{set_flag}
+use Rattle.daggy_redundant.proofs.FlaggedChildren.{set_flag}
 use Rattle.daggy_reduction.proofs.SegmentArcs.{in_step, in_none, in_same}
 
 none_set : (n i : ℕ) → get_or (replicate n false) i false ≡ false

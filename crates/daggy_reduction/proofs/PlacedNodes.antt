@@ -19,12 +19,12 @@ use Rattle.daggy_base.proofs.PathsWithEdge.{reaches_on}
 use Rattle.daggy_base.proofs.Sorted.{mem_filter, filter_mem, place_at, place_same, place_other, unique_cross}
 use Rattle.daggy_base.proofs.ListParts.{filter_yes, filter_no}
 use Rattle.daggy_reduction.specs.Blocks.{IsPlaced}
-use Rattle.daggy_reduction.proofs.FlaggedRedundant.{joined_exist}
-use Rattle.daggy_reduction.proofs.Paths.{reaches_one}
-use Rattle.daggy_reduction.proofs.QueueProgress.{take_none}
+use Rattle.daggy_redundant.proofs.FlaggedRedundant.{joined_exist}
+use Rattle.daggy_redundant.proofs.Paths.{reaches_one}
+use Rattle.daggy_redundant.proofs.QueueProgress.{take_none}
 use Rattle.daggy_search.specs.Work.{Work, IsSized}
 use Rattle.daggy_search.proofs.Sized.{sized_put_node, sized_put_cursor}
-use Rattle.daggy_reduction.proofs.SweptNodes.{below_exists, few_there}
+use Rattle.daggy_redundant.proofs.SweptNodes.{below_exists, few_there}
 
 either : (b : Bool) → (b ≡ false) ⊎ (b ≡ true)
 either false = inl refl

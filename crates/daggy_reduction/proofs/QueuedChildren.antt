@@ -17,7 +17,7 @@ use Rattle.daggy_search.proofs.Sized.{sized_entered, sized_put_node}
 use Rattle.daggy_search.proofs.SearchProgress.{marked_within, set_marked}
 use Rattle.daggy_base.specs.Ordered.{IsOrderOf, place}
 use Rattle.daggy_base.proofs.Sorted.{place_same, place_other}
-use Rattle.daggy_reduction.proofs.QueueProgress.{take_none}
+use Rattle.daggy_redundant.proofs.QueueProgress.{take_none}
 
 -- The node that a queue begins with: its graph, the number past all edges, the order and the node, and the worklist and
 -- how often edges were looked at till then.

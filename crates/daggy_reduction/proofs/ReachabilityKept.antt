@@ -5,9 +5,9 @@ use Rattle.std.proofs.lemmas.List.{length-append}
 use Rattle.daggy_base.specs.Graph.{Graph}
 use Rattle.daggy_base.specs.Path.{IsPath, Reaches, IsAcyclic, end_of}
 use Rattle.daggy_base.proofs.PathsWithEdge.{reaches_itself, reaches_before}
-use Rattle.daggy_reduction.specs.Comparison.{HaveSameReachability}
+use Rattle.daggy_redundant.specs.Comparison.{HaveSameReachability}
 use Rattle.daggy_reduction.proofs.LostPairs.{LosesRoundPairs}
-use Rattle.daggy_reduction.proofs.Paths.{path_append, end_append, path_short}
+use Rattle.daggy_redundant.proofs.Paths.{path_append, end_append, path_short}
 
 module _ {N E : Type 0} (roots : List ℕ) (old new : Graph N E) (acyclic : IsAcyclic old)
     (s : LosesRoundPairs roots old new) where

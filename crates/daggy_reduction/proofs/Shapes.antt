@@ -8,11 +8,11 @@ use Rattle.daggy_base.proofs.PathsWithEdge.{reaches_itself}
 use Rattle.daggy_base.proofs.FullSlots.{IsFull, full_from, node_count_full}
 use Rattle.daggy_base.proofs.PathsWithNode.{bound_low}
 use Rattle.daggy_base.proofs.OutEdgesRead.{below_bound}
-use Rattle.daggy_reduction.specs.Comparison.{HaveSameNodes, JoinSamePairs, HaveSameReachability, ReachAll}
-use Rattle.daggy_reduction.specs.Comparison.{IsReducedShape}
+use Rattle.daggy_redundant.specs.Comparison.{HaveSameNodes, JoinSamePairs, HaveSameReachability, ReachAll}
+use Rattle.daggy_redundant.specs.Comparison.{IsReducedShape}
 use Rattle.daggy_reduction.proofs.RemainingEdges.{reduction_loses}
 use Rattle.daggy_reduction.proofs.Canonical.{alike_exactly}
-use Rattle.daggy_reduction.proofs.FlaggedRedundant.{joined_exist}
+use Rattle.daggy_redundant.proofs.FlaggedRedundant.{joined_exist}
 
 full_there : {A : Type 0} (xs : List (Option A)) → IsFull xs → (i : ℕ) → i < length xs → IsSome (slot xs i)
 full_there [] full i low = absurd (omega (arith, low))

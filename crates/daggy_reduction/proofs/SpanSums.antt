@@ -11,12 +11,12 @@ use Rattle.daggy_base.specs.WellFormed.{IsWellFormed}
 use Rattle.daggy_base.proofs.Lists.{Mem, Unique, mem_left, mem_right, mem_cases, unique_from_distinct}
 use Rattle.daggy_base.proofs.OutEdgesRead.{lists_few}
 use Rattle.daggy_base.proofs.Sorted.{place_same, place_right, unique_cross}
-use Rattle.daggy_order.proofs.BoundedSearch.{lists_length}
+use Rattle.daggy_base.proofs.EdgesFrom.{lists_length}
 use Rattle.daggy_reduction.specs.SearchSpan.{last_place, edges_spanned, all_spanned}
 use Rattle.daggy_reduction.specs.Spans.{sum_at}
 use Rattle.daggy_reduction.proofs.BoundedQueue.{last_over}
 use Rattle.daggy_reduction.proofs.SpannedLooks.{total_is}
-use Rattle.daggy_reduction.proofs.SweptNodes.{total}
+use Rattle.daggy_redundant.proofs.SweptNodes.{total}
 
 -- sums over parts of a list
 total_join : (cost : ℕ → ℕ) (xs ys : List ℕ) → total cost (xs ++ ys) ≡ total cost xs + total cost ys

@@ -8,12 +8,12 @@ use Rattle.daggy_base.proofs.Lists.{Mem, Unique, mem_out, mem_contains, contains
 use Rattle.daggy_base.proofs.Lists.{unique_right}
 use Rattle.daggy_base.proofs.OutEdgesRead.{lists_few}
 use Rattle.daggy_base.specs.Ordered.{IsOrderOf, place, stretch}
-use Rattle.daggy_order.proofs.BoundedSearch.{lists_length}
+use Rattle.daggy_base.proofs.EdgesFrom.{lists_length}
 use Rattle.daggy_base.proofs.Sorted.{unique_left}
 use Rattle.daggy_base.proofs.ListParts.{split_three}
 use Rattle.daggy_reduction.specs.SearchSpan.{last_place, edges_spanned, all_spanned}
 use Rattle.daggy_reduction.proofs.BoundedQueue.{latest_from}
-use Rattle.daggy_reduction.proofs.SweptNodes.{total, below_exists}
+use Rattle.daggy_redundant.proofs.SweptNodes.{total, below_exists}
 
 -- sums over the nodes of a list
 total_mid : (cost : ℕ → ℕ) (p : List ℕ) (x : ℕ) (q : List ℕ) → total cost (p ++ x ∷ q) ≡ cost x + total cost (p ++ q)

@@ -5,7 +5,7 @@ use Rattle.daggy_base.specs.Path.{AreJoined}
 use Rattle.daggy_base.specs.declared.kind.Kind.{Kind}
 use Rattle.daggy_base.specs.WellFormed.{IsDag}
 use Rattle.daggy_base.specs.Reduction.{IsBelow, IsReduction}
-use Rattle.daggy_reduction.specs.Comparison.{HaveSameNodes, JoinSamePairs, HaveSameReachability, ReachAll}
+use Rattle.daggy_redundant.specs.Comparison.{HaveSameNodes, JoinSamePairs, HaveSameReachability, ReachAll}
 
 -- g is a dag, and new is its reduction from roots that reach all of its nodes
 pub record IsReducedDag {N E : Type 0} (g new : Graph N E) : Type 0 where

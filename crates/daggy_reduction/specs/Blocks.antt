@@ -6,7 +6,7 @@ use Rattle.daggy_base.specs.Path.{AreJoined}
 use Rattle.daggy_base.specs.Reduction.{ReachesIndirectly}
 use Rattle.daggy_search.specs.declared.arcs.Arc.{Arc}
 use Rattle.daggy_search.specs.declared.arcs.Segment.{Segment}
-use Rattle.daggy_reduction.specs.Flags.{IsFlagged}
+use Rattle.daggy_redundant.specs.Flags.{IsFlagged}
 
 -- existing nodes and all that they reach, each parent before its children, with the place of each; other nodes have
 -- places past the end

@@ -1,10 +1,6 @@
-pub mod Comparison
-pub mod Closure
-pub mod Flags
 pub mod SearchSpan
 pub mod Blocks
 pub mod CountedArcs
 pub mod AnyWeights
-pub mod KeptRoom
 pub mod Spans
 pub mod Descendants

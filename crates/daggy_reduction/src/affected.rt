@@ -9,10 +9,10 @@ ghost use Rattle.daggy_base.specs.WellFormed.{IsWellFormed};
 ghost use Rattle.daggy_search.specs.Work.{IsSized};
 ghost use Rattle.daggy_reduction.specs.Descendants.{IsChildOfAny, IsDescendantOfAny, IsSortedPart};
 
-use crate::roots::queue_below;
 use daggy_base::index::{EdgeIndex, IndexType, NodeIndex};
 use daggy_base::source::EdgeSource;
 use daggy_order::order::Order;
+use daggy_redundant::roots::queue_below;
 use daggy_search::{Scratch, Worklist};
 use std::alloc::{AllocError, Global};
 

@@ -3,14 +3,14 @@ ghost use Rattle.std.specs.Prelude.{◌≡◌, ℕ, ◌+◌, ◌-◌, ◌<◌, �
 ghost use Rattle.std.specs.Prelude.{take, slice_index_or, slice_set, Contains};
 ghost use Rattle.daggy_base.specs.Graph.{node_bound, edge_bound};
 ghost use Rattle.daggy_base.specs.WellFormed.{IsWellFormed};
-ghost use Rattle.daggy_reduction.specs.Flags.{IsFlagged};
+ghost use Rattle.daggy_redundant.specs.Flags.{IsFlagged};
 ghost use Rattle.daggy_reduction.specs.Blocks.{IsPlaced, HasBits, HasBit, IsIn, AreArcs, HasArcTo};
 ghost use Rattle.daggy_reduction.specs.Blocks.{ArePassedOn, MarksArcs, AreLeft, is_in_row, LeadsInto};
 
 use crate::arcs::write_arc;
-use crate::flags::flag;
 use daggy_base::index::{EdgeIndex, IndexType};
 use daggy_base::source::EdgeSource;
+use daggy_redundant::flags::flag;
 use daggy_search::{Arc, BLOCK, Row, Segment, Worklist};
 
 // The nodes of an order at the places from `low` on, before `high`.

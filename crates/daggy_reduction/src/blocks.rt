@@ -4,20 +4,20 @@ ghost use Rattle.std.specs.Prelude.{vec_len, vec_capacity};
 ghost use Rattle.daggy_base.specs.Graph.{node_bound, edge_bound, edge_count};
 ghost use Rattle.daggy_base.specs.Reduction.{IsRedundant};
 ghost use Rattle.daggy_base.specs.Ordered.{IsOrderOf};
-ghost use Rattle.daggy_reduction.specs.Flags.{IsFlagged};
-ghost use Rattle.daggy_reduction.specs.Comparison.{IsAscending};
+ghost use Rattle.daggy_redundant.specs.Flags.{IsFlagged};
+ghost use Rattle.daggy_redundant.specs.Comparison.{IsAscending};
 ghost use Rattle.std.specs.Borrow.{sem};
-ghost use Rattle.daggy_reduction.specs.KeptRoom.{keeps_room};
+ghost use Rattle.daggy_redundant.specs.KeptRoom.{keeps_room};
 
 use crate::arcs::{AlongLists, ListArcs};
 use crate::block::flag_block;
-use crate::flags::{collect_flags, unflag};
-use crate::redundant::front;
-use crate::roots::list_below;
+use crate::placed::list_below;
 use daggy_base::index::{EdgeIndex, IndexType, NodeIndex};
 use daggy_base::link::Link;
 use daggy_base::source::EdgeSource;
 use daggy_order::order::Order;
+use daggy_redundant::flags::{collect_flags, unflag};
+use daggy_redundant::redundant::front;
 use daggy_search::{Arc, Row, Scratch, Segment, Worklist};
 
 // Appends arcs until there are `len`, in memory that was reserved for them.

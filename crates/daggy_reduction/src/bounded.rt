@@ -8,19 +8,19 @@ ghost use Rattle.daggy_base.specs.WellFormed.{IsWellFormed};
 ghost use Rattle.daggy_base.specs.Reduction.{IsRedundant, ReachesIndirectly};
 ghost use Rattle.daggy_base.specs.Ordered.{IsOrderOf};
 ghost use Rattle.daggy_search.specs.Work.{IsSized, IsCleared};
-ghost use Rattle.daggy_reduction.specs.Flags.{IsFlagged, FlagsRound};
-ghost use Rattle.daggy_reduction.specs.Comparison.{IsAscending};
+ghost use Rattle.daggy_redundant.specs.Flags.{IsFlagged, FlagsRound};
+ghost use Rattle.daggy_redundant.specs.Comparison.{IsAscending};
 ghost use Rattle.daggy_reduction.specs.SearchSpan.{edges_spanned, all_spanned};
 ghost use Rattle.std.specs.Borrow.{sem};
-ghost use Rattle.daggy_reduction.specs.KeptRoom.{keeps_room};
+ghost use Rattle.daggy_redundant.specs.KeptRoom.{keeps_room};
 
-use crate::bfs::{enqueue, mark_unless_first};
-use crate::flags::{collect_flags, flag_marked, unflag};
-use crate::redundant::front;
-use crate::roots::enter_below;
 use daggy_base::index::{EdgeIndex, IndexType, NodeIndex};
 use daggy_base::source::EdgeSource;
 use daggy_order::order::Order;
+use daggy_redundant::bfs::{enqueue, mark_unless_first};
+use daggy_redundant::flags::{collect_flags, flag_marked, unflag};
+use daggy_redundant::redundant::front;
+use daggy_redundant::roots::enter_below;
 use daggy_search::{Scratch, Worklist};
 
 // Marks the children of `u` that are also reachable by a longer path. Such a path cannot
@@ -181,7 +181,7 @@ pub(crate) fn leave_redundant_in<Ix: IndexType, S: EdgeSource<Ix>>(
     collect_flags(flags, bound)
 }
 
-/// As [`redundant_edges`](crate::redundant::redundant_edges), by a topological order of the nodes.
+/// As [`redundant_edges`](daggy_redundant::redundant::redundant_edges), by a topological order of the nodes.
 ///
 /// The search from a node enters only nodes before its last child: a longer path to a child passes
 /// through no others.

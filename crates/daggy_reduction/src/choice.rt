@@ -3,7 +3,7 @@ ghost use Rattle.std.specs.Prelude.{◌≡◌, ℕ, ◌+◌, ◌*◌, ◌≤◌,
 ghost use Rattle.daggy_base.specs.Graph.{node_bound, edge_bound, node_count, edge_count};
 ghost use Rattle.daggy_base.specs.Ordered.{IsOrderOf};
 ghost use Rattle.daggy_base.specs.Reduction.{IsRedundant};
-ghost use Rattle.daggy_reduction.specs.Comparison.{IsAscending};
+ghost use Rattle.daggy_redundant.specs.Comparison.{IsAscending};
 ghost use Rattle.daggy_reduction.specs.SearchSpan.{all_spanned};
 
 use crate::arcs::ByIndex;

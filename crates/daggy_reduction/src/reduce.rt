@@ -5,14 +5,14 @@ ghost use Rattle.daggy_base.specs.Removal.{without_edges};
 ghost use Rattle.daggy_base.specs.WellFormed.{IsWellFormed};
 ghost use Rattle.daggy_base.specs.Reduction.{IsReduction};
 ghost use Rattle.daggy_base.specs.Ordered.{IsOrderOf};
-ghost use Rattle.daggy_reduction.specs.Comparison.{IsAscending, JoinsAll};
+ghost use Rattle.daggy_redundant.specs.Comparison.{IsAscending, JoinsAll};
 ghost use Rattle.daggy_reduction.specs.SearchSpan.{all_spanned};
 
 use crate::choice::leave_redundant_either_way;
-use crate::redundant::front;
 use daggy_base::index::{EdgeIndex, IndexType, NodeIndex};
 use daggy_base::store::Store;
 use daggy_order::order::Order;
+use daggy_redundant::redundant::front;
 use daggy_search::Scratch;
 use std::alloc::AllocError;
 

@@ -4,13 +4,13 @@ ghost use Rattle.daggy_base.specs.Graph.{node_bound, edge_count, out_list};
 ghost use Rattle.daggy_base.specs.Ordered.{IsOrderOf};
 ghost use Rattle.daggy_base.specs.Path.{AreJoined};
 ghost use Rattle.daggy_base.specs.WellFormed.{IsWellFormed};
-ghost use Rattle.daggy_walk.specs.Visit.{HasPair};
+ghost use Rattle.daggy_visit.specs.Visit.{HasPair};
 ghost use Rattle.daggy_reduction.specs.Descendants.{IsDescendantOf};
 
 use daggy_base::index::{EdgeIndex, IndexType, NodeIndex};
 use daggy_base::source::EdgeSource;
 use daggy_order::order::Order;
-use daggy_walk::visit::AdjMatrix;
+use daggy_visit::visit::AdjMatrix;
 use std::alloc::{AllocError, Global};
 
 // Joins a node with its children, and with all that their rows have.

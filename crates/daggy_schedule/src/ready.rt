@@ -11,7 +11,7 @@ use daggy_base::index::{DefaultIx, Direction, EdgeIndex, IndexType, NodeIndex};
 use daggy_base::link::Link;
 use daggy_base::store::Store;
 use daggy_dag::acyclic::Acyclic;
-use daggy_walk::prefetch::{PREFETCH_FROM, touch_list};
+use daggy_visit::prefetch::{PREFETCH_FROM, touch_list};
 use std::alloc::{AllocError, Global};
 use std::marker::Model;
 

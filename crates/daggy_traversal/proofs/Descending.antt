@@ -8,7 +8,7 @@ use Rattle.daggy_base.specs.Cursor.{first_of}
 use Rattle.daggy_base.specs.WellFormed.{IsWellFormed}
 use Rattle.daggy_base.proofs.Lists.{Mem, mem_mid}
 use Rattle.daggy_base.proofs.OutEdgesRead.{below_bound}
-use Rattle.daggy_walk.specs.Visit.{IsVisited}
+use Rattle.daggy_visit.specs.Visit.{IsVisited}
 use Rattle.daggy_traversal.specs.Traversal.{AreMarked, neighbors, neighbors_left, edges_left, far_or, without_old}
 use Rattle.daggy_traversal.specs.Traversal.{first_new}
 use Rattle.daggy_traversal.specs.Depth.{ahead}

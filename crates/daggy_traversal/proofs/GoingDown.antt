@@ -10,7 +10,7 @@ use Rattle.daggy_base.specs.WellFormed.{IsWellFormed}
 use Rattle.daggy_base.proofs.Lists.{Mem, Unique, mem_contains, contains_mem}
 use Rattle.daggy_base.proofs.Lists.{unique_from_distinct, distinct_from_unique}
 use Rattle.daggy_base.proofs.OutEdgesRead.{below_bound}
-use Rattle.daggy_walk.specs.Visit.{IsVisited}
+use Rattle.daggy_visit.specs.Visit.{IsVisited}
 use Rattle.daggy_traversal.specs.Traversal.{AreMarked, neighbors, neighbors_left, without_old, first_new}
 use Rattle.daggy_traversal.specs.Postorder.{GoesDown, GivesLast, AreLeft}
 use Rattle.daggy_traversal.proofs.Edges.{left_first}

@@ -5,7 +5,7 @@ use Rattle.std.proofs.lemmas.Bool.{false≢true, cases_lt}
 use Rattle.std.proofs.lemmas.List.{append-nil, get_or_past}
 use Rattle.daggy_base.proofs.Lists.{Mem, Unique, mem_contains, contains_mem, mem_left, mem_cases, mem_mid, unique_mid}
 use Rattle.daggy_base.proofs.Lists.{unique_from_distinct, distinct_from_unique, fewer_than, Contains-nil}
-use Rattle.daggy_walk.specs.Visit.{IsVisited}
+use Rattle.daggy_visit.specs.Visit.{IsVisited}
 use Rattle.daggy_traversal.specs.Traversal.{AreMarked}
 
 visited_low : (set : List Bool) (n : ℕ) → IsVisited set n → n < length set

@@ -4,7 +4,7 @@ use Rattle.std.proofs.Common.{arith}
 use Rattle.daggy_base.specs.declared.index.Direction.{Direction}
 use Rattle.daggy_base.specs.Graph.{Graph, node_bound}
 use Rattle.daggy_base.specs.WellFormed.{IsWellFormed}
-use Rattle.daggy_walk.specs.Visit.{IsVisited}
+use Rattle.daggy_visit.specs.Visit.{IsVisited}
 use Rattle.daggy_traversal.specs.Traversal.{IsNeighbor, neighbors_left}
 use Rattle.daggy_traversal.specs.Traversal.{AreMarked}
 use Rattle.daggy_traversal.proofs.Edges.{left_next, neighbor_low}

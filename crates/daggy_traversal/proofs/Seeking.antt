@@ -4,7 +4,7 @@ use Rattle.std.proofs.lemmas.Bool.{false≢true}
 use Rattle.daggy_base.specs.declared.index.Direction.{Direction}
 use Rattle.daggy_base.specs.Graph.{Graph}
 use Rattle.daggy_base.specs.WellFormed.{IsWellFormed}
-use Rattle.daggy_walk.specs.Visit.{IsVisited}
+use Rattle.daggy_visit.specs.Visit.{IsVisited}
 use Rattle.daggy_traversal.specs.Traversal.{IsNeighbor, AreMarked, neighbors_left, without_old}
 use Rattle.daggy_traversal.proofs.Edges.{left_next}
 use Rattle.daggy_traversal.proofs.Marks.{listed, unlisted}

@@ -8,7 +8,7 @@ use Rattle.daggy_base.specs.Graph.{Graph, Edge, HasNode, node_weight, node_bound
 use Rattle.daggy_base.specs.Path.{AreJoined, Reaches}
 use Rattle.daggy_base.specs.Cursor.{after}
 use Rattle.daggy_base.specs.WellFormed.{AreDistinct}
-use Rattle.daggy_walk.specs.Visit.{IsVisited}
+use Rattle.daggy_visit.specs.Visit.{IsVisited}
 
 -- an edge leads from u to v in the direction
 abbrev pub LeadsTo : {N E : Type 0} → Direction → Graph N E → ℕ → ℕ → Type 0

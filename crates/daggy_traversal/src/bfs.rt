@@ -12,7 +12,7 @@ use crate::neighbors::next_neighbor;
 use daggy_base::index::{DefaultIx, Direction, IndexType, NodeIndex};
 use daggy_base::link::Link;
 use daggy_base::store::Store;
-use daggy_walk::visit::NodeSet;
+use daggy_visit::visit::NodeSet;
 use daggy_walk::walker::{FiniteWalker, FusedWalker, Walker};
 use std::alloc::{AllocError, Global};
 use std::fmt;

@@ -6,7 +6,7 @@ ghost use Rattle.daggy_traversal.specs.Traversal.{without_old};
 
 use daggy_base::index::{Direction, EdgeIndex, IndexType, NodeIndex};
 use daggy_base::store::Store;
-use daggy_walk::visit::NodeSet;
+use daggy_visit::visit::NodeSet;
 
 /// The node at the far end of the edge `e`, and the edge after `e` in its list, or `end`. Returns
 /// `None` if there is no edge `e`.

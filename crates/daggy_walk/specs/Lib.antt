@@ -3,6 +3,4 @@ pub mod Ends
 pub mod Fused
 pub mod Leading
 pub mod Parts
-pub mod Visit
 pub mod Walking
-pub mod United

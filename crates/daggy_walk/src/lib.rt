@@ -1,8 +1,4 @@
-//! Walking over graphs without borrowing them, and what walks share.
+//! Walking over graphs without borrowing them.
 #![tactic(auto)]
 
-mod bits;
-pub mod prefetch;
-pub mod visit;
-pub mod walk;
 pub mod walker;

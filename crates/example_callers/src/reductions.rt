@@ -1,8 +1,8 @@
 //! A caller that compares the reductions of two dags of different types.
 ghost use Rattle.std.specs.Prelude.{◌↔◌, map, IfOk, OnOk};
 ghost use Rattle.daggy_base.specs.Ordered.{IsOrderOf};
-ghost use Rattle.daggy_reduction.specs.Comparison.{HaveSameNodes, HaveSameReachability};
-ghost use Rattle.daggy_reduction.specs.Comparison.{JoinSamePairs};
+ghost use Rattle.daggy_redundant.specs.Comparison.{HaveSameNodes, HaveSameReachability};
+ghost use Rattle.daggy_redundant.specs.Comparison.{JoinSamePairs};
 
 use daggy_base::index::{IndexType, NodeIndex};
 use daggy_base::store::Store;

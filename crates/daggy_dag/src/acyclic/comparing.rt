@@ -1,7 +1,7 @@
 //! Whether two dags have the same reachability.
 ghost use Rattle.std.specs.Prelude.{◌≡◌, ℕ, ◌<◌, ◌≤◌, ◌↔◌, map, Contains, IfOk, IsTrue};
 ghost use Rattle.daggy_base.specs.Graph.{node_count as node_count_of};
-ghost use Rattle.daggy_reduction.specs.Comparison.{HaveSameReachability, IsReducedShape};
+ghost use Rattle.daggy_redundant.specs.Comparison.{HaveSameReachability, IsReducedShape};
 
 use crate::acyclic::Dag;
 use daggy_base::index::{IndexType, NodeIndex};

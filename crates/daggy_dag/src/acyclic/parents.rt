@@ -11,7 +11,7 @@ ghost use Rattle.daggy_base.specs.declared.error.ParentsError.TheVariants.{Would
 ghost use Rattle.daggy_base.specs.declared.error.ParentsError.TheVariants.{Full as NoIndex};
 ghost use Rattle.daggy_guard.specs.Parents.{edges_to, entering, HasParentsSet, IsMemory};
 ghost use Rattle.daggy_guard.specs.Parents.{KeepsOtherEdges, ReachesParent};
-ghost use Rattle.daggy_reduction.specs.Comparison.{IsAscending};
+ghost use Rattle.daggy_redundant.specs.Comparison.{IsAscending};
 
 use crate::acyclic::Acyclic;
 use daggy_base::error::{ParentsError, WouldCycle};
@@ -19,7 +19,7 @@ use daggy_base::index::{Direction, EdgeIndex, IndexType, NodeIndex};
 use daggy_base::store::Store;
 use daggy_guard::parents::{add_parents, make_way_for_parents};
 use daggy_reduction::reduce::remove_edges;
-use daggy_walk::walk;
+use daggy_visit::walk;
 use std::alloc::{AllocError, Global};
 
 // The edges that enter a node.

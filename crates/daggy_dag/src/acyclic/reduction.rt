@@ -5,16 +5,16 @@ ghost use Rattle.daggy_base.specs.Path.{IsAcyclic};
 ghost use Rattle.daggy_base.specs.Removal.{KeepsIndices};
 ghost use Rattle.daggy_base.specs.declared.kind.Kind.TheVariants.{Stable};
 ghost use Rattle.daggy_base.specs.Reduction.{IsReduction};
-ghost use Rattle.daggy_walk.specs.Visit.{HasPair};
+ghost use Rattle.daggy_visit.specs.Visit.{HasPair};
 ghost use Rattle.daggy_reduction.specs.Descendants.{IsDescendantOf};
-ghost use Rattle.daggy_reduction.specs.Comparison.{HaveSameReachability, JoinsCovers, JoinsOthers};
-ghost use Rattle.daggy_reduction.specs.Comparison.{IsLeast, HasNoneRedundant, IsCanonical};
+ghost use Rattle.daggy_redundant.specs.Comparison.{HaveSameReachability, JoinsCovers, JoinsOthers};
+ghost use Rattle.daggy_redundant.specs.Comparison.{IsLeast, HasNoneRedundant, IsCanonical};
 
 use crate::acyclic::Acyclic;
 use daggy_base::index::{IndexType, NodeIndex};
 use daggy_base::store::Store;
 use daggy_reduction::{reduce, transitive_closure};
-use daggy_walk::visit::AdjMatrix;
+use daggy_visit::visit::AdjMatrix;
 use std::alloc::AllocError;
 
 impl<N: Drop, E: Drop, Ix: IndexType, S> Acyclic<N, E, Ix, S>

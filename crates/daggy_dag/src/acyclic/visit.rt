@@ -9,7 +9,7 @@ ghost use Rattle.daggy_base.specs.Path.{AreJoined};
 ghost use Rattle.daggy_base.specs.State.{with_graph};
 ghost use Rattle.daggy_base.specs.Weights.{edge_weight as edge_weight_at, with_node_weight};
 ghost use Rattle.daggy_base.specs.Weights.{with_edge_weight};
-ghost use Rattle.daggy_walk.specs.Visit.{IsVisited, HasPair};
+ghost use Rattle.daggy_visit.specs.Visit.{IsVisited, HasPair};
 ghost use Rattle.daggy_dag.specs.Lends.{lends_node_if, lends_edge_if};
 
 use crate::acyclic::{Acyclic, Dag};
@@ -17,7 +17,7 @@ use daggy_base::index::{EdgeIndex, IndexType, NodeIndex};
 use daggy_base::source::EdgeSource;
 use daggy_base::store::Store;
 use daggy_guard::matrix;
-use daggy_walk::visit::{
+use daggy_visit::visit::{
     AdjMatrix, Data, DataMap, DataMapMut, Directed, GetAdjacencyMatrix, GraphBase, GraphProp,
     NodeCompactIndexable, NodeCount, NodeIndexable, NodeSet, Visitable,
 };

@@ -10,7 +10,7 @@ ghost use Rattle.daggy_dag.specs.Walks.{rest_of_walk};
 use crate::acyclic::Acyclic;
 use daggy_base::index::{DefaultIx, Direction, EdgeIndex, IndexType, NodeIndex};
 use daggy_base::store::Store;
-use daggy_walk::walk;
+use daggy_visit::walk;
 use daggy_walk::walker::{FiniteWalker, FusedWalker, Walker};
 use std::alloc::AllocError;
 use std::marker::{Model, PhantomData};

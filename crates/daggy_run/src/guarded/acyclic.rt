@@ -37,8 +37,8 @@ use daggy_base::kind::Kind;
 use daggy_base::source::EdgeSource;
 use daggy_base::store::Store;
 use daggy_dag::acyclic::{Acyclic, TopologicalOrder};
-use daggy_walk::visit::NodeIndexable;
-use daggy_walk::walk;
+use daggy_visit::visit::NodeIndexable;
+use daggy_visit::walk;
 use std::alloc::{AllocError, Global};
 
 // The edges of a node's list in direction `dir` with their far ends.

@@ -3,8 +3,8 @@ ghost use Rattle.std.specs.Prelude.{◌≡◌};
 ghost use Rattle.daggy_walk.specs.Leading.{LeadsOn, RecursiveStep};
 ghost use Rattle.daggy_walk.specs.Parts.{recursive_node, recursive_function};
 
-use crate::visit::GraphBase;
 use crate::walker::Walker;
+use daggy_visit::visit::GraphBase;
 use std::marker::PhantomData;
 
 /// A walk from a node to the one that a function chooses, and so on.

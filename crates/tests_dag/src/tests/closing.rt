@@ -3,7 +3,7 @@ use super::acts::{Act, both};
 use super::kinds::{Kind, Plain};
 use super::support::{edge, made, node, same};
 use super::table::{Answer, edge_added, fill_nodes, is};
-use daggy_walk::visit::AdjMatrix;
+use daggy_visit::visit::AdjMatrix;
 use std::process::Abort;
 
 // Asserts that a pair is closed if it is one of these.

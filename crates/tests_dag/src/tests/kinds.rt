@@ -11,7 +11,7 @@ use daggy_cells::reference::EdgeReference;
 use daggy_dag::acyclic::Acyclic;
 use daggy_graph::graph::DiGraph;
 use daggy_stable::stable_graph::StableDiGraph;
-use daggy_walk::visit::NodeIndexable;
+use daggy_visit::visit::NodeIndexable;
 use std::alloc::{AllocError, Global};
 use std::cell::Cell;
 use std::mem;

@@ -4,7 +4,7 @@ use super::kinds::{Compact, Kind, Plain, note};
 use super::support::{holds, same};
 use super::table::{Answer, Call, Row};
 use daggy_base::source::EdgeSource;
-use daggy_walk::visit::NodeIndexable;
+use daggy_visit::visit::NodeIndexable;
 use std::cell::Cell;
 use std::process::Abort;
 

@@ -16,7 +16,7 @@ use daggy_base::store::Store;
 use daggy_dag::acyclic::Acyclic;
 use daggy_graph::graph::DiGraph;
 use daggy_stable::stable_graph::StableDiGraph;
-use daggy_walk::visit::NodeIndexable;
+use daggy_visit::visit::NodeIndexable;
 use daggy_walk::walker::Walker;
 use std::alloc::Global;
 use std::process::Abort;

@@ -4,7 +4,7 @@ use super::kinds::{Compact, Kind, Plain, Stable};
 use super::support::{holds, made, same, shows};
 use super::table::{Answer, Call, Row, edge_added, is, node_added};
 use daggy_base::index::{EdgeIndex, NodeIndex};
-use daggy_walk::visit::{
+use daggy_visit::visit::{
     Data, DataMap, DataMapMut, GetAdjacencyMatrix, GraphBase, GraphProp, NodeCompactIndexable,
     NodeCount, NodeIndexable, VisitMap, Visitable,
 };

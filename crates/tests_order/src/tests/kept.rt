@@ -9,7 +9,7 @@ use daggy_base::source::EdgeSource;
 use daggy_order::order::{Order, order_edge, reaches_in};
 use daggy_reduction::blocks::redundant_edges_by_blocks;
 use daggy_reduction::bounded::redundant_edges_in;
-use daggy_reduction::redundant::redundant_edges;
+use daggy_redundant::redundant::redundant_edges;
 use daggy_search::{Scratch, reaches};
 use std::alloc::Global;
 use std::marker::Model;

@@ -1,6 +1,6 @@
 //! Sets and matrices that no memory is large enough for.
 use super::support::holds;
-use daggy_walk::visit::{AdjMatrix, NodeSet};
+use daggy_visit::visit::{AdjMatrix, NodeSet};
 
 #[test]
 fn a_set_for_each_number_is_refused(rt: HostRuntime) {

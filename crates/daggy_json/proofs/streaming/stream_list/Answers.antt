@@ -3,7 +3,7 @@ use Rattle.json.specs.Token.{Token}
 use Rattle.daggy_base.specs.Graph.{list_at}
 use Rattle.daggy_json.specs.Document.{whole}
 use Rattle.daggy_json.specs.Passing.{Writes, AreTokensOf}
-use Rattle.daggy_walk.proofs.ListCursors.{at_edge, at_whole, at_front, at_next, at_closer}
+use Rattle.daggy_visit.proofs.ListCursors.{at_edge, at_whole, at_front, at_next, at_closer}
 use Rattle.daggy_json.proofs.TokenTrees.{Each}
 use Rattle.daggy_json.proofs.WrittenTokens.{writes_none, writes_more, writes_array_of}
 use Rattle.daggy_json.proofs.streaming.stream_list.Goals as goal

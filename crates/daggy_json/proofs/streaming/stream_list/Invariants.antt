@@ -3,7 +3,7 @@ use Rattle.daggy_base.specs.Graph.{list_at}
 use Rattle.daggy_base.specs.Ordered.{place}
 use Rattle.daggy_json.specs.Document.{whole}
 use Rattle.daggy_json.specs.Passing.{Writes, AreTokensOf}
-use Rattle.daggy_walk.proofs.ListCursors.{IsAt}
+use Rattle.daggy_visit.proofs.ListCursors.{IsAt}
 use Rattle.daggy_json.proofs.TokenTrees.{Each}
 use Rattle.daggy_json.proofs.streaming.stream_list.Given as goal
 

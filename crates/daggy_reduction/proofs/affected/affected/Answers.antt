@@ -7,7 +7,7 @@ use Rattle.daggy_reduction.specs.Descendants.{IsSortedPart}
 use Rattle.daggy_base.specs.Ordered.{place}
 use Rattle.daggy_base.specs.Reduction.{IsBelow}
 use Rattle.daggy_reduction.proofs.AffectedNodes.{part_sorted, part_read}
-use Rattle.daggy_reduction.proofs.SweptNodes.{below_exists}
+use Rattle.daggy_redundant.proofs.SweptNodes.{below_exists}
 use Rattle.daggy_reduction.proofs.affected.affected.Given.{Over}
 use Rattle.daggy_reduction.proofs.affected.affected.Goals.{After-entered_nodes, After-sort_by_place}
 use Rattle.daggy_reduction.proofs.affected.affected.Goals as goal

@@ -1,6 +1,6 @@
 use Rattle.std.proofs.Common.{List, length, map, take, ap, arith}
 use Rattle.std.specs.Vec.{with_items}
-use Rattle.daggy_reduction.proofs.FoundEdges.{AreFound, bound_real, are_found}
+use Rattle.daggy_redundant.proofs.FoundEdges.{AreFound, bound_real, are_found}
 use Rattle.daggy_reduction.proofs.blocks.leave_redundant_by_blocks.Given.{Over}
 use Rattle.daggy_reduction.proofs.blocks.leave_redundant_by_blocks.Goals.{After-collect_flags}
 use Rattle.daggy_reduction.proofs.blocks.leave_redundant_by_blocks.Goals as goal

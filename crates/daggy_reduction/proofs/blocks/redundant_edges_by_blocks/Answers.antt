@@ -1,6 +1,6 @@
 use Rattle.std.proofs.Common.{◌↔◌, ℕ, map, take, refl, sym, ap, subst, ◌∙◌, Contains}
 use Rattle.daggy_base.specs.Reduction.{IsRedundant}
-use Rattle.daggy_reduction.specs.Comparison.{IsAscending}
+use Rattle.daggy_redundant.specs.Comparison.{IsAscending}
 use Rattle.daggy_reduction.proofs.blocks.redundant_edges_by_blocks.Goals as goal
 
 pub returns : goal.returns

@@ -1,7 +1,7 @@
 use Rattle.std.proofs.Common.{map, subst}
 use Rattle.daggy_base.specs.Graph.{Graph}
-use Rattle.daggy_reduction.specs.Flags.{FlagsMarked}
-use Rattle.daggy_reduction.proofs.FlaggedRedundant.{flags_met}
+use Rattle.daggy_redundant.specs.Flags.{FlagsMarked}
+use Rattle.daggy_redundant.proofs.FlaggedRedundant.{flags_met}
 use Rattle.daggy_reduction.proofs.bounded.flag_children_in.Goals as goal
 
 pub returns-clause-flagged : goal.returns-clause-flagged

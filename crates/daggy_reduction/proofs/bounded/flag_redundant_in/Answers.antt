@@ -3,7 +3,7 @@ use Rattle.std.proofs.lemmas.List.{length-take-le, get_or-take}
 use Rattle.daggy_base.specs.Graph.{Graph}
 use Rattle.daggy_reduction.specs.SearchSpan.{edges_spanned}
 use Rattle.daggy_search.specs.Work.{IsSized}
-use Rattle.daggy_reduction.proofs.SweptNodes.{sweep_on, below_exists, flags_redundant, looks_few, looks_total}
+use Rattle.daggy_redundant.proofs.SweptNodes.{sweep_on, below_exists, flags_redundant, looks_few, looks_total}
 use Rattle.daggy_reduction.proofs.SpannedLooks.{spanned_few, total_spanned}
 use Rattle.daggy_reduction.proofs.bounded.flag_redundant_in.Given.{Over}
 use Rattle.daggy_reduction.proofs.bounded.flag_redundant_in.Goals.{After-enter_below-count, After-cursor}

@@ -1,7 +1,7 @@
 use Rattle.std.proofs.Common.{◌≡◌, ◌-◌, ◌≤◌, length, map, take}
 use Rattle.daggy_reduction.specs.SearchSpan.{edges_spanned}
 use Rattle.daggy_search.specs.Work.{IsSized}
-use Rattle.daggy_reduction.proofs.SweptNodes.{Sweeping}
+use Rattle.daggy_redundant.proofs.SweptNodes.{Sweeping}
 use Rattle.daggy_reduction.proofs.bounded.flag_redundant_in.Given as goal
 
 abbrev pub invariant-nodes : goal.invariant-nodes

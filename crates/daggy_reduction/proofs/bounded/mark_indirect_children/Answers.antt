@@ -7,8 +7,8 @@ use Rattle.daggy_reduction.proofs.QueuedChildren.{begins_here, last_exists, edge
 use Rattle.daggy_reduction.proofs.QueuedChildren.{put, child_there, put_last, put_child, last_again, none_queued}
 use Rattle.daggy_reduction.proofs.QueuedChildren.{none_listed}
 use Rattle.daggy_reduction.proofs.BoundedQueue.{steps_start, few_spanned, round_met}
-use Rattle.daggy_reduction.proofs.QueueState.{Entered, looked_once, edge_here, head_low, child_low}
-use Rattle.daggy_reduction.proofs.QueueState.{child_exists_here, room_here, entered, left_out, visited, next_here}
+use Rattle.daggy_redundant.proofs.QueueState.{Entered, looked_once, edge_here, head_low, child_low}
+use Rattle.daggy_redundant.proofs.QueueState.{child_exists_here, room_here, entered, left_out, visited, next_here}
 use Rattle.daggy_reduction.proofs.bounded.mark_indirect_children.Given.{Over}
 use Rattle.daggy_reduction.proofs.bounded.mark_indirect_children.Goals.{At-children, After-look-v, After-index-else-index-end}
 use Rattle.daggy_reduction.proofs.bounded.mark_indirect_children.Goals as goal

@@ -2,7 +2,7 @@ use Rattle.std.proofs.Common.{◌+◌, ◌-◌, ◌*◌, ◌∷◌, [], length}
 use Rattle.daggy_base.specs.Graph.{out_list, edge_count}
 use Rattle.daggy_reduction.proofs.QueuedChildren.{Beginning}
 use Rattle.daggy_reduction.proofs.BoundedQueue.{Inside, Beyond}
-use Rattle.daggy_reduction.proofs.QueueState.{Draining}
+use Rattle.daggy_redundant.proofs.QueueState.{Draining}
 use Rattle.daggy_reduction.proofs.bounded.mark_indirect_children.Given as goal
 
 abbrev pub invariant-children : goal.invariant-children

@@ -1,7 +1,7 @@
 use Rattle.std.proofs.Common.{◌↔◌, IsTrue, subst, sym, ◌∙◌}
 use Rattle.std.proofs.lemmas.Bool.{false≢true}
 use Rattle.daggy_base.specs.Graph.{Graph}
-use Rattle.daggy_reduction.specs.Comparison.{JoinsAll}
+use Rattle.daggy_redundant.specs.Comparison.{JoinsAll}
 use Rattle.daggy_reduction.proofs.joined_pairs.join_same_pairs.Goals as goal
 
 pub returns-then-not-joins_all-clause-decided : goal.returns-then-not-joins_all-clause-decided

@@ -5,7 +5,7 @@ use Rattle.daggy_base.specs.Removal.{without_edges}
 use Rattle.daggy_base.specs.declared.kind.Kind.{Kind}
 use Rattle.daggy_base.specs.Reduction.{IsReduction, IsRedundant}
 use Rattle.daggy_order.proofs.OrderLaws.{acyclic_from_order}
-use Rattle.daggy_reduction.specs.Comparison.{IsAscending}
+use Rattle.daggy_redundant.specs.Comparison.{IsAscending}
 use Rattle.daggy_reduction.proofs.EdgesRemovedDownward.{reduced, nodes_kept}
 use Rattle.daggy_reduction.proofs.Laws.{law_fewer}
 use Rattle.daggy_reduction.proofs.reduce.transitive_reduce.Given.{Over}

@@ -1,5 +1,5 @@
 use Rattle.daggy_reduction.proofs.RemainingEdges.{reduction_loses}
-use Rattle.daggy_reduction.proofs.FlaggedRedundant.{joined_exist}
+use Rattle.daggy_redundant.proofs.FlaggedRedundant.{joined_exist}
 use Rattle.daggy_reduction.proofs.Canonical.{alike_exactly}
 use Rattle.daggy_reduction.proofs.reduction_laws.reductions_are_alike.Goals as goal
 

@@ -2,7 +2,7 @@ use Rattle.std.proofs.Common.{ℕ, List, [], map, refl}
 use Rattle.daggy_base.specs.Graph.{Graph}
 use Rattle.daggy_base.specs.Ordered.{IsOrderOf}
 use Rattle.daggy_base.specs.declared.kind.Kind.TheVariants.{Compact, Stable}
-use Rattle.daggy_reduction.specs.Comparison.{ReachAll}
+use Rattle.daggy_redundant.specs.Comparison.{ReachAll}
 use Rattle.example_callers.proofs.reductions.reduce_both.Goals as goal
 
 -- all nodes reach all nodes

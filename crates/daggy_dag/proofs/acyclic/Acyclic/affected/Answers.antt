@@ -3,7 +3,7 @@ use Rattle.std.proofs.lemmas.Result.{IfOk-weaker}
 use Rattle.daggy_base.specs.Reduction.{IsBelow}
 use Rattle.daggy_guard.proofs.GuardedChange.{same_graph}
 use Rattle.daggy_reduction.specs.Descendants.{IsSortedPart, IsOrderOfPart}
-use Rattle.daggy_reduction.proofs.SweptNodes.{below_exists}
+use Rattle.daggy_redundant.proofs.SweptNodes.{below_exists}
 use Rattle.daggy_reduction.proofs.OrderedParts.{order_of_part}
 use Rattle.daggy_dag.proofs.acyclic.Acyclic.affected.Goals as goal
 

@@ -1,7 +1,7 @@
 use Rattle.std.proofs.Common.{◌↔◌, ℕ, IfOk, ap, subst, ◌∙◌}
 use Rattle.daggy_base.specs.Graph.{Graph}
 use Rattle.daggy_guard.proofs.GuardedChange.{same_graph}
-use Rattle.daggy_walk.specs.Visit.{HasPair}
+use Rattle.daggy_visit.specs.Visit.{HasPair}
 use Rattle.daggy_reduction.specs.Descendants.{IsDescendantOf}
 use Rattle.daggy_dag.proofs.acyclic.Acyclic.transitive_closure.Goals as goal
 

@@ -5,7 +5,7 @@ use Rattle.daggy_base.specs.Path.{IsAcyclic}
 use Rattle.daggy_base.specs.Removal.{KeepsIndices}
 use Rattle.daggy_base.specs.declared.kind.Kind.TheVariants.{Stable}
 use Rattle.daggy_base.specs.Reduction.{IsReduction}
-use Rattle.daggy_reduction.specs.Comparison.{HaveSameReachability, JoinsCovers, JoinsOthers, IsLeast, IsCanonical}
+use Rattle.daggy_redundant.specs.Comparison.{HaveSameReachability, JoinsCovers, JoinsOthers, IsLeast, IsCanonical}
 use Rattle.daggy_reduction.proofs.Laws.{law_reachability, law_covers, law_others, law_least, law_none, law_canonical}
 use Rattle.daggy_reduction.proofs.Laws.{law_indices}
 use Rattle.daggy_order.proofs.OrderLaws.{acyclic_from_order}

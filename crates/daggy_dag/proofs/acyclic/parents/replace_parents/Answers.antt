@@ -2,7 +2,7 @@ use Rattle.std.proofs.Common.{◌≡◌, ◌↔◌, ℕ, List, map, reverse, sub
 use Rattle.daggy_base.specs.Graph.{Graph, HasEdge, in_list}
 use Rattle.daggy_base.specs.Removal.{without_edges}
 use Rattle.daggy_guard.specs.Parents.{edges_to, HasParentsSet}
-use Rattle.daggy_reduction.specs.Comparison.{IsAscending}
+use Rattle.daggy_redundant.specs.Comparison.{IsAscending}
 use Rattle.daggy_dag.proofs.ParentsSet.{listed_kept, parents_set, all_to, parents_of, parents_now, others_now, nodes_now}
 use Rattle.daggy_dag.proofs.ParentsSet.{keeps_now, order_now}
 use Rattle.daggy_dag.proofs.acyclic.parents.replace_parents.Given.{Over}

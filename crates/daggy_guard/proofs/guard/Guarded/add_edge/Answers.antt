@@ -8,13 +8,13 @@ use Rattle.daggy_guard.proofs.OrderAfterChange.{acyclic_by, order_of_edge}
 use Rattle.daggy_guard.proofs.RefusedEdge.{no_cycle}
 use Rattle.daggy_guard.proofs.guard.Guarded.add_edge.Goals as goal
 
-pub returns-then-not-make_way-clause-acyclic : goal.returns-then-not-make_way-clause-acyclic
-returns-then-not-make_way-clause-acyclic g c = acyclic_by c.make_way.ensures.ordered c.make_way.ensures.same
+pub returns-then-not-order_new_edge-clause-acyclic : goal.returns-then-not-order_new_edge-clause-acyclic
+returns-then-not-order_new_edge-clause-acyclic g c = acyclic_by c.order_new_edge.ensures.ordered c.order_new_edge.ensures.same
 
 pub invariant_of-self-2 : goal.invariant_of-self-2
 invariant_of-self-2 g c = (
-  order_of_edge c.add_edge.result _ _ c.args.weight c.make_way.ensures.ordered
-      (c.make_way.ensures.before c.if-not-make_way.false) c.make_way.ensures.same c.add_edge.ensures.added
+  order_of_edge c.add_edge.result _ _ c.args.weight c.order_new_edge.ensures.ordered
+      (c.order_new_edge.ensures.before c.if-not-order_new_edge.false) c.order_new_edge.ensures.same c.add_edge.ensures.added
       c.add_edge.ensures.unchanged,
   search rules,
 )
@@ -29,7 +29,7 @@ returns-clause-cycle g c =
     no_cycle {Back = Reaches c.args.self.now.graph b a} c.add_edge.result c.args.weight c.add_edge.ensures.refusal
     (λ r.
     let back = subst (λ z. Reaches z b a) (sym (same_graph c.self.view_is)) r in
-    false≢true (sym (c.make_way.ensures.decided.1 back) ∙ c.if-not-make_way.false))
+    false≢true (sym (c.order_new_edge.ensures.decided.1 back) ∙ c.if-not-order_new_edge.false))
 
 pub returns-clause-first : goal.returns-clause-first
 returns-clause-first g c =
@@ -37,7 +37,7 @@ returns-clause-first g c =
     first_edge g.Ix.IndexType.number c.add_edge.result _
     (g.Ix.IndexType.number c.args.a, g.Ix.IndexType.number c.args.b, c.args.weight)
     (subst (IsWellFormed g.Ix.IndexType.greatest) same c.invariant.ensures.well_formed)
-    (c.requires.parent, c.requires.child) (c.make_way.ensures.same ∙ same) c.add_edge.ensures.index
+    (c.requires.parent, c.requires.child) (c.order_new_edge.ensures.same ∙ same) c.add_edge.ensures.index
     c.add_edge.ensures.added
 
 pub returns-clause-ready : goal.returns-clause-ready
@@ -45,4 +45,4 @@ returns-clause-ready g c r =
     let a = g.Ix.IndexType.number c.args.a in
     let b = g.Ix.IndexType.number c.args.b in
     let forth = subst (λ z. Reaches z a b) (sym (same_graph c.self.view_is)) r in
-    c.add_edge.ensures.counted ∙ c.make_way.ensures.ready forth ∙ same_looks c.self.view_is
+    c.add_edge.ensures.counted ∙ c.order_new_edge.ensures.ready forth ∙ same_looks c.self.view_is

@@ -1,0 +1,2 @@
+pub mod ParentsAsked
+pub mod KeptBefore

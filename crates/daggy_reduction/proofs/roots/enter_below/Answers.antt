@@ -1,4 +1,0 @@
-use Rattle.daggy_reduction.proofs.roots.enter_below.Goals as goal
-
-pub returns-clause-below : goal.returns-clause-below
-returns-clause-below g c = rw c.lay_aside.ensures.aside c.queue_below-len.ensures.below

@@ -1,0 +1,10 @@
+pub mod Paths
+pub mod QueueProgress
+pub mod QueueState
+pub mod LongerWays
+pub mod FlaggedChildren
+pub mod GatheredFlags
+pub mod FlaggedRedundant
+pub mod QueuedRoots
+pub mod SweptNodes
+pub mod FoundEdges

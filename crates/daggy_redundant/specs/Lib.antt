@@ -1,0 +1,4 @@
+pub mod Comparison
+pub mod Closure
+pub mod Flags
+pub mod KeptRoom

@@ -1,0 +1,4 @@
+pub mod MatrixRows
+pub mod UnitedWords
+pub mod ListCursors
+pub mod WalkedEdges

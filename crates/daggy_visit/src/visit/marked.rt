@@ -1,0 +1,82 @@
+//! Sets of nodes and matrices of pairs that fit a graph.
+ghost use Rattle.std.specs.Prelude.{◌≡◌, ℕ, ◌<◌, ◌↔◌, ◌⊎◌, List, Bool, length, IsTrue, IsFalse};
+ghost use Rattle.std.specs.Prelude.{IfOk, OnOk, OnErr};
+ghost use Rattle.daggy_base.specs.Graph.{node_bound as node_bound_of};
+ghost use Rattle.daggy_base.specs.Path.{AreJoined};
+ghost use Rattle.daggy_visit.specs.Visit.{IsVisited, HasPair};
+
+use crate::visit::Data;
+use std::alloc::AllocError;
+
+/// A set of what is visited, which `N` names.
+pub trait VisitMap<N> {
+    // The set, by number, and the number of a member.
+    ghost visited: { Self → List Bool };
+
+    ghost number: { N → ℕ };
+
+    /// Adds a member, and returns whether it was new.
+    fn visit(&mut self, a: N) -> bool
+        requires { number a < length (visited self.old) }
+        ensures answer { IsFalse result ↔ IsVisited (visited self.old) (number a) }
+        ensures visited { (m : ℕ) → IsVisited (visited self.new) m
+            ↔ ((m ≡ number a) ⊎ IsVisited (visited self.old) m) }
+        ensures bound { length (visited self.new) ≡ length (visited self.old) };
+
+    /// Whether the set has a member.
+    fn is_visited(&self, a: &N) -> bool
+        ensures { IsTrue result ↔ IsVisited (visited self.now) (number a.now) };
+}
+
+/// A graph that makes sets of its nodes.
+pub trait Visitable: Data {
+    /// A set of nodes.
+    type Map: VisitMap<Self::NodeId>;
+
+    /// An empty set that fits the nodes of the graph.
+    ///
+    /// # Errors
+    ///
+    /// Returns `AllocError` if an allocation fails.
+    fn visit_map(&self) -> Result<Self::Map, AllocError>
+        ensures bound { IfOk result (λ map.
+            length (Self.Map.visited map) ≡ node_bound_of (Self.graph self.now)) }
+        ensures empty { IfOk result (λ map. (n : ℕ) → ¬ IsVisited (Self.Map.visited map) n) };
+
+    /// Empties a set and makes it fit the nodes of the graph.
+    ///
+    /// # Errors
+    ///
+    /// Returns `AllocError` if an allocation fails; the set is unchanged.
+    fn reset_map(&self, map: &mut Self::Map) -> Result<(), AllocError>
+        ensures bound { OnOk result
+            (length (Self.Map.visited map.new) ≡ node_bound_of (Self.graph self.now)) }
+        ensures empty { OnOk result ((n : ℕ) → ¬ IsVisited (Self.Map.visited map.new) n) }
+        ensures err { OnErr result (map.new ≡ map.old) };
+
+    // A node has the same number in the set.
+    ghost map_number: { (n : Self.NodeId) → Self.Map.number n ≡ Self.node_number n };
+}
+
+/// A graph that makes a matrix of the pairs of nodes that an edge joins.
+pub trait GetAdjacencyMatrix: Data {
+    /// A set of pairs of nodes.
+    type AdjMatrix;
+
+    // The pairs in a matrix.
+    ghost pairs: { Self.AdjMatrix → List (List Bool) };
+
+    /// The pairs of nodes that an edge joins.
+    ///
+    /// # Errors
+    ///
+    /// Returns `AllocError` if an allocation fails.
+    fn adjacency_matrix(&self) -> Result<Self::AdjMatrix, AllocError>
+        ensures { IfOk result (λ matrix.
+            (a b : ℕ) → HasPair (pairs matrix) a b ↔ AreJoined (Self.graph self.now) a b) };
+
+    /// Whether an edge led from one node to another when the matrix was made.
+    fn is_adjacent(&self, matrix: &Self::AdjMatrix, a: Self::NodeId, b: Self::NodeId) -> bool
+        ensures { IsTrue result
+            ↔ HasPair (pairs matrix.now) (Self.node_number a) (Self.node_number b) };
+}
