@@ -21,6 +21,12 @@ pub use Rattle.daggy_walk.specs.Leading
 pub use Rattle.daggy_walk.specs.Fused
 pub use Rattle.daggy_walk.specs.Parts
 pub use Rattle.daggy_dag.specs.Walks
+pub use Rattle.daggy_dag.specs.Lends
+pub use Rattle.daggy_dag.specs.Cursors
+pub use Rattle.daggy_dag.specs.Slots
+pub use Rattle.daggy_graph.specs.Lends as GraphLends
+pub use Rattle.daggy_graph.specs.Cursors as GraphCursors
+pub use Rattle.daggy_stable.specs.Lends as StableGraphLends
 pub use Rattle.daggy_base.specs.Mapping
 pub use Rattle.daggy_base.specs.Filtering
 pub use Rattle.daggy_base.specs.FromSlots
@@ -29,6 +35,7 @@ pub use Rattle.daggy_base.specs.FilteringInPlace
 pub use Rattle.daggy_base.specs.Rewriting
 pub use Rattle.daggy_base.specs.Iterating
 pub use Rattle.daggy_base.specs.Calls
+pub use Rattle.daggy_base.specs.CallsInTurn
 pub use Rattle.daggy_cells.specs.Raw
 pub use Rattle.daggy_stable.specs.Held
 pub use Rattle.daggy_base.specs.Ordered
@@ -48,12 +55,16 @@ pub use Rattle.daggy_schedule.specs.Work
 pub use Rattle.daggy_schedule.specs.Times
 pub use Rattle.daggy_schedule.specs.LeastFirst
 pub use Rattle.daggy_schedule.specs.Assignments
+pub use Rattle.daggy_schedule.specs.ByKey
 pub use Rattle.daggy_traversal.specs.Traversal
 pub use Rattle.daggy_traversal.specs.Breadth
 pub use Rattle.daggy_traversal.specs.Depth
 pub use Rattle.daggy_traversal.specs.Postorder
 pub use Rattle.daggy_named.specs.Naming
+pub use Rattle.daggy_named.specs.Refused
+pub use Rattle.daggy_named.specs.Lends as NamedLends
 pub use Rattle.daggy_dot.specs.Picture
+pub use Rattle.daggy_dot.specs.Escapes
 pub use Rattle.daggy_base.specs.Look
 pub use Rattle.daggy_base.specs.Errors
 pub use Rattle.daggy_base.specs.Capacity
@@ -70,3 +81,4 @@ pub use Rattle.daggy_json.specs.Document
 pub use Rattle.daggy_json.specs.Reading
 pub use Rattle.daggy_json.specs.Weight
 pub use Rattle.daggy_json.specs.Restoring
+pub use Rattle.daggy_json.specs.Streaming

@@ -5,6 +5,8 @@ pub use daggy_order::order::{Nodes, Order, order_edge, path_in, reaches_in};
 pub use daggy_reduction::affected::{affected, descendants};
 pub use daggy_reduction::blocks::redundant_edges_by_blocks;
 pub use daggy_reduction::bounded::redundant_edges_in;
+pub use daggy_reduction::reduce::transitive_reduce;
 pub use daggy_reduction::reduction_laws::{reduction_is_least, reductions_are_alike};
+pub use daggy_reduction::transitive_closure::transitive_closure;
 pub use daggy_redundant::redundant::redundant_edges;
 pub use daggy_search::{Reversed, Scratch, is_acyclic, reaches};
