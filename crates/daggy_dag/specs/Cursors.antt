@@ -16,7 +16,8 @@ use Rattle.daggy_dag.specs.contracts.acyclic.cursors.EdgeWeightsMut.{the_row as 
 abbrev pub node_cursor_type : (N E Ix S : RattleType)
     → IndexMembers Ix.Denot → StoreMembers N.Denot E.Denot S.Denot → RattleType
 node_cursor_type N E Ix S m t =
-    node_weights_type (record { mir = named 1; lft = [] }) N E Ix S m
+    node_weights_type (record { mir = named 1; lft = [] }) N E Ix S
+    (record { number = m.number; of = m.of; greatest = m.greatest; of_number = m.of_number })
     (record { KIND = t.KIND; node_written = t.node_written; edge_written = t.edge_written })
     (record { graph = t.graph; looks = t.looks })
 
@@ -24,7 +25,8 @@ node_cursor_type N E Ix S m t =
 abbrev pub edge_cursor_type : (N E Ix S : RattleType)
     → IndexMembers Ix.Denot → StoreMembers N.Denot E.Denot S.Denot → RattleType
 edge_cursor_type N E Ix S m t =
-    edge_weights_type (record { mir = named 1; lft = [] }) N E Ix S m
+    edge_weights_type (record { mir = named 1; lft = [] }) N E Ix S
+    (record { number = m.number; of = m.of; greatest = m.greatest; of_number = m.of_number })
     (record { KIND = t.KIND; node_written = t.node_written; edge_written = t.edge_written })
     (record { graph = t.graph; looks = t.looks })
 

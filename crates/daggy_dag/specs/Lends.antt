@@ -23,7 +23,7 @@ StoreMembers N E S =
 abbrev pub dag_type : (N E Ix S : RattleType)
     → IndexMembers Ix.Denot → StoreMembers N.Denot E.Denot S.Denot → RattleType
 dag_type N E Ix S m t =
-    the_row N E Ix S m
+    the_row N E Ix S (record { number = m.number; of = m.of; greatest = m.greatest; of_number = m.of_number })
     (record { KIND = t.KIND; node_written = t.node_written; edge_written = t.edge_written })
     (record { graph = t.graph; looks = t.looks })
 

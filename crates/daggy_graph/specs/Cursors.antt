@@ -13,12 +13,14 @@ use Rattle.daggy_graph.specs.contracts.graph.cursors.EdgeWeightsMut.{the_row as 
 -- the type of a cursor over the weights of nodes, with the second lifetime of the signature
 abbrev pub node_cursor_type : (N E Ix : RattleType) → IndexMembers Ix.Denot → RattleType
 node_cursor_type N E Ix m =
-    node_weights_type (record { mir = named 1; lft = [] }) N E Ix m
+    node_weights_type (record { mir = named 1; lft = [] }) N E Ix
+    (record { number = m.number; of = m.of; greatest = m.greatest; of_number = m.of_number })
 
 -- the type of a cursor over the weights of edges
 abbrev pub edge_cursor_type : (N E Ix : RattleType) → IndexMembers Ix.Denot → RattleType
 edge_cursor_type N E Ix m =
-    edge_weights_type (record { mir = named 1; lft = [] }) N E Ix m
+    edge_weights_type (record { mir = named 1; lft = [] }) N E Ix
+    (record { number = m.number; of = m.of; greatest = m.greatest; of_number = m.of_number })
 
 -- the cursor one step further, with this weight written at the index that it was at
 abbrev pub nodes_moved : {N E Ix : Type 0} → NodeWeightsMut N E Ix → N → NodeWeightsMut N E Ix

@@ -12,7 +12,7 @@ abbrev pub named_type : (K N E Ix : RattleType)
     → HashMembers K.Denot → IndexMembers Ix.Denot → clone.Ghosts Ix.Denot → RattleType
 named_type K N E Ix k m copy =
     the_row K N E Ix (record { eq = k.eq }) (record { hash_input = k.hash_input })
-    m copy
+    (record { number = m.number; of = m.of; greatest = m.greatest; of_number = m.of_number }) copy
 
 module _ (K N E Ix : RattleType) (k : HashMembers K.Denot) (m : IndexMembers Ix.Denot) (copy : clone.Ghosts Ix.Denot)
     (s : MutBor (Naming K.Denot N.Denot E.Denot)) (test : K.Denot → Bool) where

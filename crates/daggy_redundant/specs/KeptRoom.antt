@@ -9,7 +9,7 @@ use Rattle.daggy_search.specs.contracts.scratch.Scratch.{the_row}
 -- the type of a scratch with indices of this type
 abbrev pub scratch_type : (Ix : RattleType) → IndexMembers Ix.Denot → RattleType
 scratch_type Ix m =
-    the_row Ix m
+    the_row Ix (record { number = m.number; of = m.of; greatest = m.greatest; of_number = m.of_number })
 
 -- once the borrow of the scratch ends, its capacity is what it was before
 abbrev pub keeps_room : (Ix : RattleType) → IndexMembers Ix.Denot → MutBor (Room Ix.Denot) → Fml

@@ -9,7 +9,7 @@ use Rattle.daggy_stable.specs.contracts.stable_graph.StableDiGraph.{the_row}
 -- the type of a graph
 abbrev pub graph_type : (N E Ix : RattleType) → IndexMembers Ix.Denot → RattleType
 graph_type N E Ix m =
-    the_row N E Ix m
+    the_row N E Ix (record { number = m.number; of = m.of; greatest = m.greatest; of_number = m.of_number })
 
 module _ (N E Ix : RattleType) (m : IndexMembers Ix.Denot) (s : MutBor (State N.Denot E.Denot)) (n : Ix.Denot) where
   -- once the borrow r ends, the node has the last weight written through r
