@@ -24,7 +24,6 @@ pub mod FilteringInPlace
 pub mod Rewriting
 pub mod Iterating
 pub mod Calls
-pub mod IndexMembers
 pub mod Bits
 pub mod CallsInTurn
 pub mod Requests

@@ -4,7 +4,7 @@ use Rattle.std.specs.Borrow.{LendsIf, Fml, RattleType, MutBor}
 use mir.Syntax.{named}
 use Rattle.daggy_base.specs.State.{with_graph}
 use Rattle.daggy_base.specs.Weights.{with_node_weight, with_edge_weight}
-use Rattle.daggy_base.specs.IndexMembers.{IndexMembers}
+use Rattle.daggy_base.specs.declared.index.IndexType as index_type
 use Rattle.daggy_dag.specs.Lends.{StoreMembers}
 use Rattle.daggy_dag.specs.Slots.{next_slot}
 use Rattle.daggy_dag.specs.declared.acyclic.cursors.NodeWeightsMut.{NodeWeightsMut}
@@ -14,19 +14,17 @@ use Rattle.daggy_dag.specs.contracts.acyclic.cursors.EdgeWeightsMut.{the_row as 
 
 -- the type of a cursor, whose lifetime is the second of the signature
 abbrev pub node_cursor_type : (N E Ix S : RattleType)
-    → IndexMembers Ix.Denot → StoreMembers N.Denot E.Denot S.Denot → RattleType
+    → index_type.Ghosts Ix.Denot → StoreMembers N.Denot E.Denot S.Denot → RattleType
 node_cursor_type N E Ix S m t =
-    node_weights_type (record { mir = named 1; lft = [] }) N E Ix S
-    (record { number = m.number; of = m.of; greatest = m.greatest; of_number = m.of_number })
+    node_weights_type (record { mir = named 1; lft = [] }) N E Ix S m
     (record { KIND = t.KIND; node_written = t.node_written; edge_written = t.edge_written })
     (record { graph = t.graph; looks = t.looks })
 
 -- the type of a cursor over the weights of edges
 abbrev pub edge_cursor_type : (N E Ix S : RattleType)
-    → IndexMembers Ix.Denot → StoreMembers N.Denot E.Denot S.Denot → RattleType
+    → index_type.Ghosts Ix.Denot → StoreMembers N.Denot E.Denot S.Denot → RattleType
 edge_cursor_type N E Ix S m t =
-    edge_weights_type (record { mir = named 1; lft = [] }) N E Ix S
-    (record { number = m.number; of = m.of; greatest = m.greatest; of_number = m.of_number })
+    edge_weights_type (record { mir = named 1; lft = [] }) N E Ix S m
     (record { KIND = t.KIND; node_written = t.node_written; edge_written = t.edge_written })
     (record { graph = t.graph; looks = t.looks })
 
@@ -52,7 +50,7 @@ behind_edge c e w = record {
   index = e + 1;
 }
 
-module _ (N E Ix S : RattleType) (m : IndexMembers Ix.Denot) (t : StoreMembers N.Denot E.Denot S.Denot) where
+module _ (N E Ix S : RattleType) (m : index_type.Ghosts Ix.Denot) (t : StoreMembers N.Denot E.Denot S.Denot) where
   -- when the borrow of the next node ends, the cursor is after it and the node has the weight that was written; at `None`
   -- nothing changes
   abbrev pub nodes_lend_next :

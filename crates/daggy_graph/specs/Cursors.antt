@@ -4,23 +4,21 @@ use Rattle.std.specs.Borrow.{LendsIf, Fml, RattleType, MutBor}
 use mir.Syntax.{named}
 use Rattle.daggy_base.specs.State.{with_graph}
 use Rattle.daggy_base.specs.Weights.{with_node_weight, with_edge_weight}
-use Rattle.daggy_base.specs.IndexMembers.{IndexMembers}
+use Rattle.daggy_base.specs.declared.index.IndexType as index_type
 use Rattle.daggy_graph.specs.declared.graph.cursors.NodeWeightsMut.{NodeWeightsMut}
 use Rattle.daggy_graph.specs.declared.graph.cursors.EdgeWeightsMut.{EdgeWeightsMut}
 use Rattle.daggy_graph.specs.contracts.graph.cursors.NodeWeightsMut.{the_row as node_weights_type}
 use Rattle.daggy_graph.specs.contracts.graph.cursors.EdgeWeightsMut.{the_row as edge_weights_type}
 
 -- the type of a cursor over the weights of nodes, with the second lifetime of the signature
-abbrev pub node_cursor_type : (N E Ix : RattleType) → IndexMembers Ix.Denot → RattleType
+abbrev pub node_cursor_type : (N E Ix : RattleType) → index_type.Ghosts Ix.Denot → RattleType
 node_cursor_type N E Ix m =
-    node_weights_type (record { mir = named 1; lft = [] }) N E Ix
-    (record { number = m.number; of = m.of; greatest = m.greatest; of_number = m.of_number })
+    node_weights_type (record { mir = named 1; lft = [] }) N E Ix m
 
 -- the type of a cursor over the weights of edges
-abbrev pub edge_cursor_type : (N E Ix : RattleType) → IndexMembers Ix.Denot → RattleType
+abbrev pub edge_cursor_type : (N E Ix : RattleType) → index_type.Ghosts Ix.Denot → RattleType
 edge_cursor_type N E Ix m =
-    edge_weights_type (record { mir = named 1; lft = [] }) N E Ix
-    (record { number = m.number; of = m.of; greatest = m.greatest; of_number = m.of_number })
+    edge_weights_type (record { mir = named 1; lft = [] }) N E Ix m
 
 -- the cursor one step further, with this weight written at the index that it was at
 abbrev pub nodes_moved : {N E Ix : Type 0} → NodeWeightsMut N E Ix → N → NodeWeightsMut N E Ix
@@ -44,7 +42,7 @@ edges_moved c w = record {
   index = c.index + 1;
 }
 
-module _ (N E Ix : RattleType) (m : IndexMembers Ix.Denot) where
+module _ (N E Ix : RattleType) (m : index_type.Ghosts Ix.Denot) where
   -- once the borrow r of the next node's weight ends, the cursor is one step further, and the node has the last weight
   -- written through r; at `None` nothing changes
   abbrev pub nodes_lend_next : MutBor (NodeWeightsMut N.Denot E.Denot Ix.Denot) → Option (MutBor N.Denot) → Fml
