@@ -7,3 +7,4 @@ case "$(cat docs/MODEL.md)" in
   *"$table"*) ;;
   *) echo 'the table in docs/MODEL.md is not that of .ci/believed'; exit 1 ;;
 esac
+echo "ok: $(tail -n 1 <<<"$table" | awk '{ print $4 }') definitions"

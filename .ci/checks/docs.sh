@@ -54,13 +54,19 @@ def code_of(text):
     return [line[margin:] for line in lines]
 
 
-def stands_in(part, lines):
-    """Whether the lines of a part follow one another in a file, at any indentation."""
-    for at, line in enumerate(lines):
-        margin = line[: len(line) - len(line.lstrip())]
-        if line.lstrip() == part[0] and lines[at : at + len(part)] == [margin + it for it in part]:
-            return True
-    return False
+def stand_in(parts, lines):
+    """Whether the parts stand in a file one after another, the lines of each part together, at any indentation."""
+    at = 0
+    for part in parts:
+        while at < len(lines):
+            margin = lines[at][: len(lines[at]) - len(lines[at].lstrip())]
+            if lines[at : at + len(part)] == [margin + it for it in part]:
+                break
+            at += 1
+        if at >= len(lines):
+            return False
+        at += len(part)
+    return True
 
 
 gated = [line.split(":")[0].split()[0] for line in text_of("crates.txt").split("\n") if ":" in line.split("#")[0]]
@@ -75,7 +81,7 @@ pages = {"docs/SHEET.md": "example_sheet", "docs/PACKAGES.md": "example_packages
 using = [(path, block) for path in ["docs/USING.md", *pages] for block in blocks(made.RECIPE.sub("", text_of(path)), "rust")]
 for path, block in using:
     parts = [code_of(part) for part in re.split(r"^ *// \.\.$", block, flags=re.M)]
-    if not any(all(stands_in(part, lines) for part in parts if part) for lines in sources.values()):
+    if not any(stand_in([part for part in parts if part], lines) for lines in sources.values()):
         complain(f"{path}: no file has this:\n{block}")
 proofs = [text_of(path) for name in gated for path in glob.glob(f"crates/{name}/proofs/**/*.antt", recursive=True)]
 for block in blocks(page, "antt"):
@@ -135,6 +141,7 @@ compare("dagbench", runs)
 for name, shown in examples:
     compare(name, shown)
 
-print(f"{len(using)} blocks of code and {len(runs) + sum(len(shown) for _, shown in examples)} runs, {bad} bad")
+count = f"{len(using)} blocks of code and {len(runs) + sum(len(shown) for _, shown in examples)} runs"
+print(f"{count}, {bad} bad" if bad else f"ok: {count}")
 sys.exit(bad > 0)
 PYTHON

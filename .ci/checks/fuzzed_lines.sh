@@ -31,4 +31,5 @@ for sent, *wanted in cases:
         planned = replies(sent, 'plan', kind)
         if not planned.startswith(said) or not planned.splitlines()[-1].startswith(b'chain '):
             sys.exit(f'plan {kind}: other replies to {sent}')
+print(f'ok: {len(cases)} inputs')
 EOS

@@ -47,4 +47,5 @@ for shape, (needs, depth, time) in shapes.items():
             sys.exit(f'{shape}, {plan}: {last[:6]}, missing or too early: {wrong[:3]}')
         if plan and (last[3:5] != ['least', str(depth)] or len(last) != 6 + depth):
             sys.exit(f'{shape}: a longest path of {len(last) - 6} targets, {last[:6]}')
+print(f'ok: {len(shapes)} shapes')
 EOS

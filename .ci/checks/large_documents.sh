@@ -36,4 +36,5 @@ for options in [], ['--stable']:
     status, left, error = reduced(shortcuts + chain + [[0, COUNT - 1, 'back']], *options)
     if status != 1 or left or 'cycle' not in error:
         sys.exit(f'{options}: a cycle has status {status}, error {error[:200]}')
+print('ok: 4 documents')
 EOS

@@ -57,4 +57,5 @@ for kind in ['compact', 'stable']:
     stages, chain = plan(kind, ['node 1'] + ['child 0 1 1'] * (LARGE - 1), 'a star')
     if stages != [[0], list(range(1, LARGE))] or chain != [0, 1]:
         sys.exit(f'{kind}: a star')
+print(f'ok: {len(pairs)} dags')
 EOS

@@ -7,10 +7,12 @@ lines=$'node 1\nnode 2\nedge 0 1 7\nedge 1 0 5\nchildren 0\n'
 replies=$'n0\nn1\ne0\ncycle 5\ne0:1'
 usage='usage: dagbench compact|stable|plan compact|plan stable'
 
+tried=0
 expect() { # STATUS OUTPUT ERROR REFUSED WORDS..: the program ends so and writes so
   local status=$1 output=$2 error=$3 refused=$4
   shift 4
   local wrote complained ended
+  tried=$((tried + 1))
   wrote=$(printf '%s' "$lines" | refusing "$refused" dagbench "$program" "$@" 2>"$shim.err")
   ended=$?
   complained=$(cat "$shim.err")
@@ -24,6 +26,7 @@ fails() { # ERROR INPUT OUTPUT WORDS..: from that file to that one, the program 
   local error=$1 input=$2 output=$3
   shift 3
   local complained ended
+  tried=$((tried + 1))
   complained=$("$program" "$@" 2>&1 <"$input" >"$output")
   ended=$?
   if [ "$ended" != 1 ] || [ "$complained" != "$error" ]; then
@@ -50,3 +53,4 @@ for kind in compact stable; do
   fails 'dagbench: write failed' "$shim.lines" /dev/full "$kind"
   fails 'dagbench: write failed' "$shim.lines" /dev/full plan "$kind"
 done
+echo "ok: $tried endings"

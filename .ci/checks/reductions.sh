@@ -54,4 +54,5 @@ for kind in ['compact', 'stable']:
         if fault:
             sys.exit(f'{kind}, line {number}: {fault}')
         start += len(part)
+print(f'ok: {len(cases)} dags')
 EOS

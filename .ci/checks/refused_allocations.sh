@@ -14,4 +14,4 @@ while :; do
   if [ "$number" -gt 0 ] && ! was_refused; then break; fi
   number=$((number + 1))
 done
-had_refusals "$number" 40
+had_refusals "$number" 40 && echo "ok: $((number - 1)) allocations"

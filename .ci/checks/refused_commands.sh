@@ -69,4 +69,4 @@ for number in $(seq 1 1000); do
   fi
   was_refused || break
 done
-had_refusals "$number" 8
+had_refusals "$number" 8 && echo "ok: $((number - 1)) allocations of the script"

@@ -23,3 +23,4 @@ bash .ci/use "$room/other" >/dev/null || fail 'the libraries are not replaced'
 [ "$(cat "$room/other/crates/garden/src/main.rt")" = "$changed" ] || fail 'the program is another'
 diff -r crates/daggy/src "$room/other/crates/daggy/src" || fail 'a library is not that of this repository'
 if bash .ci/use "$room/other" garden 2>/dev/null; then fail 'a program is made over another'; fi
+echo "ok: $(grep -c : <<<"$lines") crates"

@@ -14,23 +14,26 @@ abbrev pub if_done : {A : Type 0} → List (List ℕ) → A → Option A
 if_done [] x = Some x
 if_done (word ∷ words) x = None
 
--- the arguments of a command, if nothing follows them
+-- the weight that is the only argument of a command
 unfoldable pub weight_alone : List (List ℕ) → Option ℤ
 weight_alone words = do
   weight ← first_by weight_of words
   if_done weight.1 weight.0
 
+-- the index that is the only argument
 unfoldable pub index_alone : List (List ℕ) → Option ℕ
 index_alone words = do
   index ← first_by index_of words
   if_done index.1 index.0
 
+-- two indices, with nothing after them
 unfoldable pub two_indices : List (List ℕ) → Option (ℕ × ℕ)
 two_indices words = do
   first ← first_by index_of words
   second ← first_by index_of first.1
   if_done second.1 (first.0, second.0)
 
+-- the parent, the child and the weight of an edge, with nothing after them
 unfoldable pub ends_and_weight : List (List ℕ) → Option (ℕ × ℕ × ℤ)
 ends_and_weight words = do
   parent ← first_by index_of words
@@ -38,6 +41,7 @@ ends_and_weight words = do
   weight ← first_by weight_of child.1
   if_done weight.1 (parent.0, child.0, weight.0)
 
+-- an index and two weights, that of an edge and that of a node, with nothing after them
 unfoldable pub index_and_weights : List (List ℕ) → Option (ℕ × ℤ × ℤ)
 index_and_weights words = do
   index ← first_by index_of words
@@ -70,6 +74,7 @@ single_by_name name words =
     else if bytes_eq name (codes "parents") then option_map (λ n. Parents n) (index_alone words)
     else None
 
+-- the first of two values, or the second if there is no first
 abbrev pub or_else : {A : Type 0} → Option A → Option A → Option A
 or_else None other = other
 or_else (Some x) other = Some x
@@ -79,6 +84,7 @@ pub data LineRequest : Type 0 where
   Step : Request ℤ ℤ → LineRequest
   Document : LineRequest
 
+-- the document, if the line is the word `json` alone
 abbrev pub document_by_name : (name : List ℕ) → List (List ℕ) → Option LineRequest
 document_by_name name words = if bytes_eq name (codes "json") then if_done words Document else None
 

@@ -29,6 +29,7 @@ abbrev pub Lacks : (separator : ℕ) → List ℕ → Type 0
 Lacks separator [] = Unit {0}
 Lacks separator (b ∷ bytes) = (b ≢ separator) × Lacks separator bytes
 
+-- the byte that ends a line
 abbrev pub newline : ℕ
 newline = 10
 
@@ -36,6 +37,7 @@ newline = 10
 abbrev pub kept_count : ℕ
 kept_count = 4097
 
+-- the byte between words
 abbrev pub space : ℕ
 space = 32
 
@@ -47,6 +49,7 @@ lines_of input = cut_at newline input
 abbrev pub ended_lines_of : List ℕ → List (List ℕ)
 ended_lines_of input = ended_at newline input
 
+-- whether a piece of a line is a word, that is, not empty
 abbrev pub is_word : List ℕ → Bool
 is_word [] = false
 is_word (b ∷ bytes) = true

@@ -9,6 +9,7 @@ pub record Passed : Type 0 where
   pub is_ended : Bool
   pub failures : ℕ
 
+-- what went through a device that was not used yet
 abbrev pub nothing_passed : Passed
 nothing_passed = record { bytes = []; is_ended = false; failures = 0 }
 

@@ -16,6 +16,7 @@ number_after n (b ∷ bytes) = if is_digit b then number_after (n * 10 + (b - 48
 abbrev pub number_of : (most : ℕ) → List ℕ → Option ℕ
 number_of most word = if nat_le 1 (length word) && nat_le (length word) most then number_after 0 word else None
 
+-- a number, if there is one and it is at most the limit
 abbrev pub at_most : (limit : ℕ) → Option ℕ → Option ℕ
 at_most limit None = None
 at_most limit (Some n) = if nat_le n limit then Some n else None

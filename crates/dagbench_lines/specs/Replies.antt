@@ -7,20 +7,23 @@ use Rattle.daggy_base.specs.Answers.{EdgeGone}
 use Rattle.daggy_base.specs.Answers.{Walk, Done, Missing, Full, Cycle, CycleAll, Memory}
 use Rattle.dagbench_lines.specs.Cutting.{newline}
 
--- the text of an index of a node, and of an index of an edge
+-- the text of an index of a node
 abbrev pub node_text : ℕ → List ℕ
 node_text n = codes "n" ++ decimal n
 
+-- the text of an index of an edge
 abbrev pub edge_text : ℕ → List ℕ
 edge_text e = codes "e" ++ decimal e
 
--- the endpoints of an edge; an edge and the node that it leads to; the weight of what was removed
+-- the text of the endpoints of an edge
 abbrev pub ends_text : ℕ × ℕ → List ℕ
 ends_text ends = node_text ends.0 ++ codes " " ++ node_text ends.1
 
+-- the text of an edge and the node at its other end
 abbrev pub item_text : ℕ × ℕ → List ℕ
 item_text item = edge_text item.0 ++ codes ":" ++ decimal item.1
 
+-- the text of the weight of what was removed
 abbrev pub weight_text : ℤ → List ℕ
 weight_text weight = codes "weight " ++ signed_decimal weight
 
@@ -43,6 +46,7 @@ abbrev pub back_text : Weights ℤ ℤ → List ℕ
 back_text (OfEdges last before) = spaced signed_decimal (last ∷ before)
 back_text other = []
 
+-- the text of an answer; an answer that returns weights has them last
 abbrev pub text_of : Answer ℤ ℤ → List ℕ
 text_of (Node n) = node_text n
 text_of (Edge e) = edge_text e
@@ -60,10 +64,11 @@ text_of (Cycle weight) = codes "cycle" ++ spaced signed_decimal (weight ∷ [])
 text_of (CycleAll weights) = codes "cycle" ++ spaced signed_decimal weights
 text_of (Memory weights) = codes "memory" ++ back_text weights
 
--- a plan in lines: each stage with its nodes, and then the chain
+-- the stages of a plan, each in a line with its nodes
 abbrev pub stages_text : {A : Type 0} → (nodes : A → List ℕ) → (stages : List A) → List ℕ
 stages_text nodes stages = flat_map (λ stage. (codes "stage" ++ spaced node_text (nodes stage)) ++ newline ∷ []) stages
 
+-- a plan in lines: its stages, and then the chain
 abbrev pub plan_text : {A : Type 0} → (nodes : A → List ℕ) → (stages : List A) (chain : List ℕ) → List ℕ
 plan_text nodes stages chain =
     stages_text nodes stages ++ (codes "chain " ++ parted node_text chain ++ newline ∷ [])
