@@ -45,11 +45,14 @@ refused() { # WHY WORDS..: .ci/use refuses these words for that reason, and writ
   [ "$before" = "$after" ] || fail "$* leaves something"
 }
 
+all=$(sed -n 's/^daggy: *//p' crates.txt | wc -w)
+all=$((all + 1))
+
 taken() { # NUMBER WORDS..: .ci/use takes along so many proofs
   local number=$1 said
   shift
   said=$(cd "$room" && "$clone/.ci/use" "$@" 2>&1) || fail "$*: $said"
-  grep -q "^takes along the proofs of $number of 18 libraries" <<<"$said" || fail "$*: $said, and not $number"
+  grep -q "^takes along the proofs of $number of $all libraries" <<<"$said" || fail "$*: $said, and not $number of $all"
 }
 
 touch "$room/file"
@@ -63,7 +66,7 @@ refused 'has a crate garden' other garden
 refused 'is no folder' file app
 refused 'another repository' clone app
 refused 'another repository' clone/crates/app app
-refused 'rt check has not proved' --pack proofs
+refused 'not proved as they are now: ' --pack proofs
 refused 'cannot be read' --proved file new app
 taken 0 first app
 
@@ -83,10 +86,10 @@ for library in [*top.below(), top]:
         with open(path, "w", encoding="utf-8") as file:
             file.write(text)
 PYTHON
-taken 18 first
+taken "$all" first
 diff -r "$clone/crates/daggy_dag/out" "$room/first/crates/daggy_dag/out" || fail 'other proofs of the dag'
 (cd "$room" && clone/.ci/use --pack proofs >/dev/null) || fail 'nothing is packed'
-taken 18 --proved proofs second app
+taken "$all" --proved proofs second app
 diff -r "$clone/crates/daggy_dag/out" "$room/second/crates/daggy_dag/out" || fail 'other proofs of the dag in the file'
 
 head -c 300 "$room/proofs" >"$room/half"
@@ -98,12 +101,12 @@ PATH=$room/bin:$PATH refused 'and rt version says another kit' --proved proofs n
 
 # A change of another crate means nothing to the proofs. A change of a library does, to its own and those above.
 echo '// Changed.' >>"$clone/crates/example_garden/src/main.rt"
-taken 18 third
-taken 18 --proved proofs fourth
+taken "$all" third
+taken "$all" --proved proofs fourth
 echo '# Changed.' >>"$clone/crates.txt"
 refused 'changes that are in no commit' --pack others
 echo '// Changed.' >>"$clone/crates/daggy/src/lib.rt"
 refused 'differ for daggy' --proved proofs new app
-refused 'has not proved these as they are now: daggy' --pack others
-taken 17 fifth app
+refused 'not proved as they are now: daggy (' --pack others
+taken $((all - 1)) fifth app
 [ ! -e "$room/fifth/crates/daggy/out" ] || fail 'a proof of other sources is taken along'
