@@ -4,7 +4,7 @@ use Rattle.daggy_base.specs.Path.{Reaches}
 use Rattle.daggy_base.specs.Ordered.{place}
 use Rattle.daggy_order.proofs.OrderEdgeResult.{reached_later}
 use Rattle.daggy_guard.proofs.GuardedChange.{same_graph, same_looks}
-use Rattle.daggy_guard.proofs.OrderAfterChange.{few_edges}
+use Rattle.daggy_base.proofs.EdgesFrom.{few_edges}
 use Rattle.daggy_guard.proofs.guard.Guarded.path.Goals as goal
 
 pub returns-clause-counted : goal.returns-clause-counted
