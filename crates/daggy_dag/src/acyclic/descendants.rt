@@ -25,7 +25,8 @@ where
     ///
     /// # Complexity
     ///
-    /// O(k log k + edges) for k nodes found and the edges that leave them.
+    /// O(k log k + edges) for k nodes found and the edges that leave them. The first search after
+    /// nodes were added also takes O(node bound).
     ///
     /// # Examples
     ///

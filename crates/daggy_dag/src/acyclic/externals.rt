@@ -15,7 +15,7 @@ use std::marker::{Model, PhantomData};
 ///
 /// # Complexity
 ///
-/// O(nodes) in total.
+/// O(node bound) in total.
 #[derive(Drop)]
 pub struct Externals<'a, Ix: IndexType, S: Store<Ix>> {
     store: &'a S,
@@ -42,7 +42,7 @@ where
     ///
     /// # Complexity
     ///
-    /// O(nodes) in total.
+    /// O(node bound) in total.
     #[inline]
     pub fn externals(&self, dir: Direction) -> Externals<'_, Ix, S>
         ensures rest { result ≡ externals_from dir self.now.graph 0 }

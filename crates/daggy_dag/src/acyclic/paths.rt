@@ -45,7 +45,8 @@ where
     /// # Complexity
     ///
     /// O(1) if `b` precedes `a` in the dag's order. Otherwise a search from `a` that stays before
-    /// `b` in the order. Does not allocate.
+    /// `b` in the order. The first search after nodes were added also takes O(node bound). Does not
+    /// allocate.
     ///
     /// # Examples
     ///

@@ -37,7 +37,8 @@ where
     ///
     /// One search for each node that the roots reach, which stays before the node's last child in
     /// the dag's order; or, where that is expected to look at more edges, O(nodes * edges / 512)
-    /// steps of 512 bits each, with 72 bytes of memory for each node. Then the removals.
+    /// steps of 512 bits each, with 80 bytes of memory for each node and, over `u32`, 12 for each
+    /// edge, which the dag keeps. Then the removals.
     ///
     /// # Examples
     ///

@@ -74,7 +74,9 @@ where
     /// Whether `a` precedes `b` in the order that the dag keeps. False if a node is missing.
     ///
     /// A parent precedes its children. If neither node reaches the other, the answer may change
-    /// when edges are added.
+    /// when edges are added, and the contract does not say which of them precedes the other. To
+    /// compare several nodes by one order, take it from
+    /// [`topological_order`](Acyclic::topological_order).
     ///
     /// # Complexity
     ///
