@@ -24,11 +24,14 @@ def run(lines, *options):
 
 
 def begins(targets):
-    """When each target begins, by its number."""
-    starts = [None] * COUNT
+    """When each target begins, by its number. Each takes a second, and a worker does one at a time."""
+    starts, busy = [None] * COUNT, set()
     for line in targets:
-        time, _, _, _, name = line.split()
+        time, _, _, worker, name = line.split()
         starts[int(name)] = int(time)
+        busy.add((int(time), int(worker.rstrip(':'))))
+    if len(busy) != len(targets) or max(worker for _, worker in busy) >= WORKERS:
+        sys.exit('a worker has two targets at a time, or there are more workers')
     return starts
 
 
