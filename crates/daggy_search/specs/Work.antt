@@ -37,15 +37,18 @@ AreLow round stamps = (n : ℕ) → slice_index stamps n ≤ round
 abbrev pub blank : {I : Type 0} → (end : ℕ) → Entry I
 blank end = record { entered = 0; marked = 0; node = end; cursor = end }
 
--- what is stored, field by field
+-- in which round each node was last entered
 abbrev pub entered_of : {I : Type 0} → List (Entry I) → List ℕ
 entered_of entries = map (λ e. e.entered) entries
 
+-- in which round each node was last marked
 abbrev pub marked_of : {I : Type 0} → List (Entry I) → List ℕ
 marked_of entries = map (λ e. e.marked) entries
 
+-- the list of nodes that is stored beside the stamps
 abbrev pub nodes_of : {I : Type 0} → List (Entry I) → List ℕ
 nodes_of entries = map (λ e. e.node) entries
 
+-- the list of cursors that is stored beside the stamps
 abbrev pub cursors_of : {I : Type 0} → List (Entry I) → List ℕ
 cursors_of entries = map (λ e. e.cursor) entries
