@@ -12,8 +12,15 @@ fail() {
   exit 1
 }
 
-.ci/use --help | grep -q '^usage: ' || fail '--help prints no usage'
-.ci/use "$room/other" garden >/dev/null || fail 'no program is made'
+# A clone with nothing built, in a commit of its own.
+clone=$room/clone
+mkdir "$clone"
+tar -c --exclude=out --exclude=./.git . | tar -x -C "$clone"
+(cd "$clone" && git init -q && git add -A && git -c user.name=check -c user.email=check commit -q -m 'A clone') || fail 'no clone'
+cd "$clone" || exit 1
+
+"$clone/.ci/use" --help | grep -q '^usage: ' || fail '--help prints no usage'
+"$clone/.ci/use" "$room/other" garden >/dev/null || fail 'no program is made'
 ran=$(cd "$room/other/crates/garden" && rt try 2>"$room/said") || fail "rt try: $(cat "$room/said")"
 [ "$ran" = "$(cat crates/example_garden/stdout)" ] || fail "the program prints $ran"
 
@@ -21,19 +28,10 @@ lines=$(sort "$room/other/crates.txt")
 echo '// Changed.' >>"$room/other/crates/garden/src/main.rt"
 echo '// Changed.' >>"$room/other/crates/daggy/src/lib.rt"
 changed=$(cat "$room/other/crates/garden/src/main.rt")
-.ci/use "$room/other" >/dev/null || fail 'the libraries are not replaced'
+"$clone/.ci/use" "$room/other" >/dev/null || fail 'the libraries are not replaced'
 [ "$(sort "$room/other/crates.txt")" = "$lines" ] || fail 'crates.txt has other lines'
 [ "$(cat "$room/other/crates/garden/src/main.rt")" = "$changed" ] || fail 'the program is another'
 diff -r crates/daggy/src "$room/other/crates/daggy/src" || fail 'a library is not that of this repository'
-
-# A clone with nothing built, in a commit of its own.
-clone=$room/clone
-mkdir "$clone"
-tar -c --exclude=out --exclude=./.git . | tar -x -C "$clone"
-commit() {
-  git -C "$clone" add -A && git -C "$clone" -c user.name=check -c user.email=check commit -q -m "$1"
-}
-git -C "$clone" init -q && commit 'A clone' || fail 'no clone'
 
 refused() { # WHY WORDS..: .ci/use refuses these words for that reason, and writes nothing
   local why=$1 before after said
