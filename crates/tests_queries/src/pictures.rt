@@ -1,6 +1,6 @@
 //! The text of a whole picture, written out.
 
-use crate::support::node;
+use crate::support::{node, same};
 use daggy_base::index::{EdgeIndex, NodeIndex};
 use daggy_base::source::EdgeSource;
 use daggy_base::store::Store;
@@ -47,6 +47,41 @@ fn shows<D: Display + Drop>(
     Ok(())
 }
 
+/// A picture of texts that are joined by numbers.
+#[derive(Clone, Copy)]
+enum Picture {
+    Empty,
+    TwoNodes,
+    Cycle,
+    VacantSlots,
+    Ranks,
+    InLittleRoom,
+}
+
+fn draw<S: Store<u32, NodeWeight = Text, EdgeWeight = u32>>(
+    rt: &impl Abort,
+    alloc: Global,
+    picture: Picture,
+) -> Result<(), Fail> {
+    match picture {
+        Picture::Empty => draw_empty_graph::<S>(rt, alloc),
+        Picture::TwoNodes => draw_two_nodes::<S>(rt, alloc),
+        Picture::Cycle => draw_parallel_edges_and_a_cycle::<S>(rt, alloc),
+        Picture::VacantSlots => draw_vacant_slots::<S>(rt, alloc),
+        Picture::Ranks => draw_ranks_and_a_path::<S>(rt, alloc),
+        Picture::InLittleRoom => draw_in_little_room::<S>(rt, alloc),
+    }
+}
+
+// A call at a kind costs a proof much more than a call at any graph, so each is named once.
+fn draw_compact(rt: &impl Abort, alloc: Global, picture: Picture) -> Result<(), Fail> {
+    draw::<DiGraph<Text, u32, u32>>(rt, alloc, picture)
+}
+
+fn draw_stable(rt: &impl Abort, alloc: Global, picture: Picture) -> Result<(), Fail> {
+    draw::<StableDiGraph<Text, u32, u32>>(rt, alloc, picture)
+}
+
 fn draw_empty_graph<S: Store<u32, NodeWeight = Text, EdgeWeight = u32>>(
     rt: &impl Abort,
     alloc: Global,
@@ -57,7 +92,7 @@ fn draw_empty_graph<S: Store<u32, NodeWeight = Text, EdgeWeight = u32>>(
 
 #[test]
 fn an_empty_graph(rt: HostRuntime) -> Result<(), Fail> {
-    draw_empty_graph::<DiGraph<Text, u32, u32>>(&rt, rt.alloc())
+    draw_compact(&rt, rt.alloc(), Picture::Empty)
 }
 
 fn draw_two_nodes<S: Store<u32, NodeWeight = Text, EdgeWeight = u32>>(
@@ -76,7 +111,7 @@ fn draw_two_nodes<S: Store<u32, NodeWeight = Text, EdgeWeight = u32>>(
 
 #[test]
 fn two_nodes(rt: HostRuntime) -> Result<(), Fail> {
-    draw_two_nodes::<DiGraph<Text, u32, u32>>(&rt, rt.alloc())
+    draw_compact(&rt, rt.alloc(), Picture::TwoNodes)
 }
 
 fn draw_escapes<S: Store<u32, NodeWeight = Text, EdgeWeight = Text>>(
@@ -119,7 +154,7 @@ fn draw_parallel_edges_and_a_cycle<S: Store<u32, NodeWeight = Text, EdgeWeight =
 
 #[test]
 fn parallel_edges_and_a_cycle(rt: HostRuntime) -> Result<(), Fail> {
-    draw_parallel_edges_and_a_cycle::<StableDiGraph<Text, u32, u32>>(&rt, rt.alloc())
+    draw_stable(&rt, rt.alloc(), Picture::Cycle)
 }
 
 fn draw_vacant_slots<S: Store<u32, NodeWeight = Text, EdgeWeight = u32>>(
@@ -147,7 +182,7 @@ fn draw_vacant_slots<S: Store<u32, NodeWeight = Text, EdgeWeight = u32>>(
 
 #[test]
 fn vacant_slots(rt: HostRuntime) -> Result<(), Fail> {
-    draw_vacant_slots::<StableDiGraph<Text, u32, u32>>(&rt, rt.alloc())
+    draw_stable(&rt, rt.alloc(), Picture::VacantSlots)
 }
 
 // Labels a node by its index and its weight, in a box.
@@ -260,7 +295,7 @@ fn draw_ranks_and_a_path<S: Store<u32, NodeWeight = Text, EdgeWeight = u32>>(
 
 #[test]
 fn ranks_and_a_path(rt: HostRuntime) -> Result<(), Fail> {
-    draw_ranks_and_a_path::<DiGraph<Text, u32, u32>>(&rt, rt.alloc())
+    draw_compact(&rt, rt.alloc(), Picture::Ranks)
 }
 
 // A writer with room for a number of bytes.
@@ -279,24 +314,32 @@ impl Write for Narrow {
     }
 }
 
+// How much room is left behind a picture, if it fits.
+fn room_behind<D: Display>(dot: &D, room: usize) -> Option<usize> {
+    let mut out = Narrow { room };
+    match out.write(dot) {
+        Ok(()) => Some(out.room),
+        Err(_) => None,
+    }
+}
+
+fn draw_in_little_room<S: Store<u32, NodeWeight = Text, EdgeWeight = u32>>(
+    rt: &impl Abort,
+    alloc: Global,
+) -> Result<(), Fail> {
+    let graph: S = graph_of(rt, alloc, &["s\"w", "reap"], &[(0, 1, 90)]);
+    let path = [node(rt, 0), node(rt, 1)];
+    let stages = vec![in alloc; vec![in alloc; path[0], path[1]]?]?;
+    let dot = Dot::of_graph(&graph).bold(&path).ranks(stages.as_slice());
+    let whole = format!(in alloc; "{dot}")?.len();
+    for room in 0..whole {
+        same(rt, room_behind(&dot, room), None);
+    }
+    same(rt, room_behind(&dot, whole), Some(0));
+    Ok(())
+}
+
 #[test]
 fn a_writer_that_fails(rt: HostRuntime) -> Result<(), Fail> {
-    let graph: DiGraph<Text, u32, u32> = graph_of(
-        &rt,
-        rt.alloc(),
-        &["s\"w", "reap"],
-        &[(0, 1, 90)],
-    );
-    let path = [node(&rt, 0), node(&rt, 1)];
-    let stages = vec![in rt.alloc(); vec![in rt.alloc(); path[0], path[1]]?]?;
-    let dot = Dot::of_graph(&graph).bold(&path).ranks(stages.as_slice());
-    let whole = format!(in rt.alloc(); "{dot}")?.len();
-    for room in 0..whole {
-        let mut out = Narrow { room };
-        assert!(rt; out.write(&dot).is_err());
-    }
-    let mut out = Narrow { room: whole };
-    assert!(rt; out.write(&dot).is_ok());
-    assert!(rt; out.room == 0);
-    Ok(())
+    draw_compact(&rt, rt.alloc(), Picture::InLittleRoom)
 }
