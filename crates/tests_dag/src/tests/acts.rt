@@ -1,7 +1,7 @@
 //! What is done with a dag of either kind beside the calls of a table.
 use super::closing::{close_chain, close_path};
 use super::kinds::{Compact, Kind, Line, Made, Plain, Stable, Three, put_second};
-use super::retaining::{keep_by_table, keep_edges, keep_nodes};
+use super::retaining::{keep_edges, keep_nodes};
 use super::support::{edge, holds, made, node, same};
 use super::table::{Answer, Call, Row, play};
 use super::visiting::{keep_pairs, read, reset, visit, write};
@@ -58,8 +58,6 @@ pub enum Act<'a> {
     KeepNodes(u32, u64),
     /// The same with edges.
     KeepEdges(u32, u64),
-    /// What is kept is read from tables.
-    KeepByTable,
     /// A matrix keeps the pairs of its time.
     KeepPairs,
     /// Each weight of a node is doubled and each of an edge raised, with these calls.
@@ -236,7 +234,6 @@ fn keep_or_close<S: Kind>(rt: &impl Abort, dag: &mut Plain<S>, act: Act<'_>) {
     match act {
         Act::KeepNodes(without, noted) => keep_nodes(rt, dag, without, noted),
         Act::KeepEdges(without, noted) => keep_edges(rt, dag, without, noted),
-        Act::KeepByTable => keep_by_table(rt, dag),
         Act::Update(nodes, edges) => same(rt, S::update(dag), (nodes, edges)),
         Act::PutSecond(node, edge, nodes, edges) => {
             same(rt, put_second(dag, node, edge), (nodes, edges));

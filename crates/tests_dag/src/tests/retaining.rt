@@ -1,6 +1,6 @@
 //! Dags of which a closure keeps some nodes, or some edges.
-use super::acts::{Act, TRIANGLE, both, compact, stable};
-use super::kinds::{Kind, Plain, note};
+use super::acts::{Act, TRIANGLE, both, compact, compact_of, stable};
+use super::kinds::{Compact, Kind, Plain, note};
 use super::support::{holds, same};
 use super::table::{Answer, Call, Row};
 use daggy_base::source::EdgeSource;
@@ -80,8 +80,8 @@ fn all_is_kept_and_nothing_is_asked_of_an_empty_dag(rt: HostRuntime) {
     both(&rt, rt.alloc(), &TRIANGLE, ALL);
 }
 
-/// Keeps what two tables say of a triangle.
-pub fn keep_by_table<S: Kind>(rt: &impl Abort, dag: &mut Plain<S>) {
+// Keeps what two tables say of a triangle.
+fn keep_by_table(rt: &impl Abort, dag: &mut Plain<Compact>) {
     let (nodes, edges) = ([true, false, true], [false, true, true]);
     holds(rt, dag.graph().edge_bound() <= edges.len());
     dag.retain_edges(|e, _| edges[e.index()]);
@@ -93,5 +93,6 @@ pub fn keep_by_table<S: Kind>(rt: &impl Abort, dag: &mut Plain<S>) {
 
 #[test]
 fn what_is_kept_is_read_from_a_table(rt: HostRuntime) {
-    compact(&rt, rt.alloc(), &TRIANGLE, &[Act::KeepByTable]);
+    let mut dag = compact_of(&rt, rt.alloc(), &TRIANGLE);
+    keep_by_table(&rt, &mut dag);
 }
