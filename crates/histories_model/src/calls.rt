@@ -6,7 +6,7 @@ use std::fmt;
 pub type Line = (usize, usize, u64);
 
 /// A direction along the edges.
-#[derive(Clone, Copy, Debug, PartialEq)]
+#[derive(Clone, Copy, Debug)]
 pub enum Way {
     Down,
     Up,

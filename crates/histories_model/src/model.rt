@@ -16,7 +16,7 @@ use crate::answer::Answer;
 use crate::calls::Call;
 
 /// What a removal does with the slot.
-#[derive(Clone, Copy, Debug, PartialEq)]
+#[derive(Clone, Copy)]
 pub enum Removal {
     // The last node or edge moves there, and gets the index.
     MovesLast,
@@ -25,7 +25,7 @@ pub enum Removal {
 }
 
 /// An edge.
-#[derive(Clone, Copy, Debug, PartialEq)]
+#[derive(Clone, Copy)]
 pub struct Edge {
     pub parent: usize,
     pub child: usize,

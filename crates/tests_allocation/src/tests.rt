@@ -2,10 +2,11 @@
 use crate::again::{fill, join_again, small_fan};
 use crate::observed::{counts, state_of};
 use crate::scenarios::{Scenario, Way, compact};
-use crate::support::{Compact, Plain, answered, made, refuse, same};
+use crate::support::{Compact, Kind, Plain, answered, made, refuse, same};
 use daggy::same_reachability;
-use std::alloc::AllocError;
+use std::alloc::{AllocError, Global};
 use std::process::Abort;
+use std::rt::Env;
 
 #[test]
 fn a_refused_allocation_is_answered_and_nothing_else(rt: HostRuntime) {
@@ -124,55 +125,66 @@ enum Room {
     FittedEdges,
 }
 
-fn ask(dag: &mut Plain<Compact>, room: Room) -> Result<(), AllocError> {
-    match room {
-        Room::Nodes(count) => dag.reserve_nodes(count),
-        Room::ExactNodes(count) => dag.reserve_exact_nodes(count),
-        Room::Edges(count) => dag.reserve_edges(count),
-        Room::ExactEdges(count) => dag.reserve_exact_edges(count),
-        Room::Fitted => dag.shrink_to_fit(),
-        Room::FittedNodes => dag.shrink_to_fit_nodes(),
-        Room::FittedEdges => dag.shrink_to_fit_edges(),
+/// The store of the compact kind, with the calls that no other kind has.
+trait CompactKind: Kind {
+    /// Makes a call that changes what a dag has memory for.
+    fn ask(dag: &mut Plain<Self>, room: Room) -> Result<(), AllocError>;
+
+    /// Whether two dags have the same reachability.
+    fn compared(a: &Plain<Self>, b: &Plain<Self>) -> Result<bool, AllocError>;
+}
+
+impl CompactKind for Compact {
+    fn ask(dag: &mut Plain<Self>, room: Room) -> Result<(), AllocError> {
+        match room {
+            Room::Nodes(count) => dag.reserve_nodes(count),
+            Room::ExactNodes(count) => dag.reserve_exact_nodes(count),
+            Room::Edges(count) => dag.reserve_edges(count),
+            Room::ExactEdges(count) => dag.reserve_exact_edges(count),
+            Room::Fitted => dag.shrink_to_fit(),
+            Room::FittedNodes => dag.shrink_to_fit_nodes(),
+            Room::FittedEdges => dag.shrink_to_fit_edges(),
+        }
+    }
+
+    fn compared(a: &Plain<Self>, b: &Plain<Self>) -> Result<bool, AllocError> {
+        same_reachability(a, b)
     }
 }
 
 // Makes these calls, each a second time if the first is refused.
-fn ask_again(rt: &impl Abort, dag: &mut Plain<Compact>, rooms: &[Room], refused: &mut bool) {
+fn ask_again<S: CompactKind>(
+    rt: &impl Abort,
+    dag: &mut Plain<S>,
+    rooms: &[Room],
+    refused: &mut bool,
+) {
     let before = state_of(dag);
     for room in rooms {
-        if ask(dag, *room).is_err() {
+        if S::ask(dag, *room).is_err() {
             refuse(rt, refused);
             same(rt, state_of(dag), before);
-            made(rt, ask(dag, *room));
+            made(rt, S::ask(dag, *room));
         }
         same(rt, state_of(dag), before);
     }
 }
 
-#[test]
-fn refused_room_is_asked_again(rt: HostRuntime) {
-    let mut dag: Plain<Compact> = Plain::<Compact>::new(rt.alloc());
-    let mut refused = false;
-    let room = [Room::Nodes(20), Room::Edges(20)];
-    ask_again(&rt, &mut dag, &room, &mut refused);
-    fill(&rt, &mut dag, 19);
-    answered(&rt, refused);
+// Asks for room, which a fan then needs.
+fn ask_and_fill<S: CompactKind>(
+    rt: &impl Abort,
+    alloc: Global,
+    rooms: &[Room],
+    refused: &mut bool,
+) {
+    let mut dag = Plain::<S>::new(alloc);
+    ask_again(rt, &mut dag, rooms, refused);
+    fill(rt, &mut dag, 19);
 }
 
-#[test]
-fn refused_exact_room_is_asked_again(rt: HostRuntime) {
-    let mut dag: Plain<Compact> = Plain::<Compact>::new(rt.alloc());
-    let mut refused = false;
-    let room = [Room::ExactNodes(20), Room::ExactEdges(20)];
-    ask_again(&rt, &mut dag, &room, &mut refused);
-    fill(&rt, &mut dag, 19);
-    answered(&rt, refused);
-}
-
-#[test]
-fn a_refused_smaller_block_is_asked_for_again(rt: HostRuntime) {
-    let mut refused = false;
-    let mut dag: Plain<Compact> = small_fan(&rt, rt.alloc(), &mut refused);
+// Asks for room beside a small fan, and gives it back.
+fn ask_and_shrink<S: CompactKind>(rt: &impl Abort, alloc: Global, refused: &mut bool) {
+    let mut dag: Plain<S> = small_fan(rt, alloc, refused);
     let room = [
         Room::ExactNodes(20),
         Room::FittedNodes,
@@ -182,38 +194,80 @@ fn a_refused_smaller_block_is_asked_for_again(rt: HostRuntime) {
         Room::Edges(30),
         Room::Fitted,
     ];
-    ask_again(&rt, &mut dag, &room, &mut refused);
-    answered(&rt, refused);
+    ask_again(rt, &mut dag, &room, refused);
 }
 
 // Compares two dags, a second time if the first is refused.
-fn compare_again(
+fn compare_again<S: CompactKind>(
     rt: &impl Abort,
-    a: &Plain<Compact>,
-    b: &Plain<Compact>,
+    a: &Plain<S>,
+    b: &Plain<S>,
     wanted: bool,
     refused: &mut bool,
 ) {
-    let found = match same_reachability(a, b) {
+    let found = match S::compared(a, b) {
         Ok(found) => found,
         Err(AllocError) => {
             refuse(rt, refused);
-            made(rt, same_reachability(a, b))
+            made(rt, S::compared(a, b))
         }
     };
     same(rt, found, wanted);
 }
 
+fn compare<S: CompactKind>(rt: &impl Abort, alloc: Global, refused: &mut bool) {
+    let dag: Plain<S> = small_fan(rt, alloc, refused);
+    let mut other: Plain<S> = small_fan(rt, alloc, refused);
+    join_again(rt, &mut other, (1, 2), false, refused);
+    compare_again(rt, &dag, &dag, true, refused);
+    compare_again(rt, &dag, &other, false, refused);
+    counts(rt, &other, 4, 4);
+}
+
+/// What is done with compact dags alone.
+#[derive(Clone, Copy)]
+enum Task {
+    Room,
+    ExactRoom,
+    SmallerBlock,
+    Comparison,
+}
+
+fn carry_out<S: CompactKind>(rt: &(impl Abort + Env), alloc: Global, task: Task) {
+    let mut refused = false;
+    let room = [Room::Nodes(20), Room::Edges(20)];
+    let exact = [Room::ExactNodes(20), Room::ExactEdges(20)];
+    match task {
+        Task::Room => ask_and_fill::<S>(rt, alloc, &room, &mut refused),
+        Task::ExactRoom => ask_and_fill::<S>(rt, alloc, &exact, &mut refused),
+        Task::SmallerBlock => ask_and_shrink::<S>(rt, alloc, &mut refused),
+        Task::Comparison => compare::<S>(rt, alloc, &mut refused),
+    }
+    answered(rt, refused);
+}
+
+fn do_task(rt: &(impl Abort + Env), alloc: Global, task: Task) {
+    carry_out::<Compact>(rt, alloc, task);
+}
+
+#[test]
+fn refused_room_is_asked_again(rt: HostRuntime) {
+    do_task(&rt, rt.alloc(), Task::Room);
+}
+
+#[test]
+fn refused_exact_room_is_asked_again(rt: HostRuntime) {
+    do_task(&rt, rt.alloc(), Task::ExactRoom);
+}
+
+#[test]
+fn a_refused_smaller_block_is_asked_for_again(rt: HostRuntime) {
+    do_task(&rt, rt.alloc(), Task::SmallerBlock);
+}
+
 #[test]
 fn a_refused_comparison_is_made_again(rt: HostRuntime) {
-    let mut refused = false;
-    let dag: Plain<Compact> = small_fan(&rt, rt.alloc(), &mut refused);
-    let mut other: Plain<Compact> = small_fan(&rt, rt.alloc(), &mut refused);
-    join_again(&rt, &mut other, (1, 2), false, &mut refused);
-    compare_again(&rt, &dag, &dag, true, &mut refused);
-    compare_again(&rt, &dag, &other, false, &mut refused);
-    counts(&rt, &other, 4, 4);
-    answered(&rt, refused);
+    do_task(&rt, rt.alloc(), Task::Comparison);
 }
 
 #[test]

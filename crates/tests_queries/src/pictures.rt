@@ -1,6 +1,6 @@
 //! The text of a whole picture, written out.
 
-use crate::support::node;
+use crate::support::{made, node, same};
 use daggy_base::index::{EdgeIndex, NodeIndex};
 use daggy_base::source::EdgeSource;
 use daggy_base::store::Store;
@@ -10,7 +10,6 @@ use daggy_stable::stable_graph::StableDiGraph;
 use std::alloc::Global;
 use std::fmt::{self, Display, Formatter, Write};
 use std::process::Abort;
-use std::test::Fail;
 
 type Text = &'static str;
 
@@ -35,35 +34,69 @@ fn graph_of<N: Copy + Drop, E: Copy + Drop, S: Store<u32, NodeWeight = N, EdgeWe
     graph
 }
 
+// These nodes in a `Vec`.
+fn list(rt: &impl Abort, alloc: Global, nodes: &[NodeIndex]) -> Vec<NodeIndex> {
+    made(rt, Vec::from_slice(alloc, nodes))
+}
+
 // Asserts the whole text of a picture.
-fn shows<D: Display + Drop>(
+fn shows<D: Display + Drop>(rt: &impl Abort, alloc: Global, dot: D, text: &str) {
+    let shown = made(rt, format!(in alloc; "{dot}"));
+    same(rt, shown.as_str(), text);
+}
+
+/// A picture of texts that are joined by numbers.
+#[derive(Clone, Copy)]
+enum Picture {
+    Empty,
+    TwoNodes,
+    Cycle,
+    VacantSlots,
+    Ranks,
+    InLittleRoom,
+}
+
+fn draw<S: Store<u32, NodeWeight = Text, EdgeWeight = u32>>(
     rt: &impl Abort,
     alloc: Global,
-    dot: D,
-    text: &str,
-) -> Result<(), Fail> {
-    let shown = format!(in alloc; "{dot}")?;
-    assert_eq!(rt; shown.as_str(), text);
-    Ok(())
+    picture: Picture,
+) {
+    match picture {
+        Picture::Empty => draw_empty_graph::<S>(rt, alloc),
+        Picture::TwoNodes => draw_two_nodes::<S>(rt, alloc),
+        Picture::Cycle => draw_parallel_edges_and_a_cycle::<S>(rt, alloc),
+        Picture::VacantSlots => draw_vacant_slots::<S>(rt, alloc),
+        Picture::Ranks => draw_ranks_and_a_path::<S>(rt, alloc),
+        Picture::InLittleRoom => draw_in_little_room::<S>(rt, alloc),
+    }
+}
+
+// A call at a kind costs a proof much more than a call at any graph, so each is named once.
+fn draw_compact(rt: &impl Abort, alloc: Global, picture: Picture) {
+    draw::<DiGraph<Text, u32, u32>>(rt, alloc, picture);
+}
+
+fn draw_stable(rt: &impl Abort, alloc: Global, picture: Picture) {
+    draw::<StableDiGraph<Text, u32, u32>>(rt, alloc, picture);
 }
 
 fn draw_empty_graph<S: Store<u32, NodeWeight = Text, EdgeWeight = u32>>(
     rt: &impl Abort,
     alloc: Global,
-) -> Result<(), Fail> {
+) {
     let graph: S = S::new(alloc);
-    shows(rt, alloc, Dot::of_graph(&graph), "digraph {\n}\n")
+    shows(rt, alloc, Dot::of_graph(&graph), "digraph {\n}\n");
 }
 
 #[test]
-fn an_empty_graph(rt: HostRuntime) -> Result<(), Fail> {
-    draw_empty_graph::<DiGraph<Text, u32, u32>>(&rt, rt.alloc())
+fn an_empty_graph(rt: HostRuntime) {
+    draw_compact(&rt, rt.alloc(), Picture::Empty);
 }
 
 fn draw_two_nodes<S: Store<u32, NodeWeight = Text, EdgeWeight = u32>>(
     rt: &impl Abort,
     alloc: Global,
-) -> Result<(), Fail> {
+) {
     let graph: S = graph_of(rt, alloc, &["sow", "reap"], &[(0, 1, 90)]);
     let text = "digraph {
     0 [ label = \"sow\" ]
@@ -71,18 +104,18 @@ fn draw_two_nodes<S: Store<u32, NodeWeight = Text, EdgeWeight = u32>>(
     0 -> 1 [ label = \"90\" ]
 }
 ";
-    shows(rt, alloc, Dot::of_graph(&graph), text)
+    shows(rt, alloc, Dot::of_graph(&graph), text);
 }
 
 #[test]
-fn two_nodes(rt: HostRuntime) -> Result<(), Fail> {
-    draw_two_nodes::<DiGraph<Text, u32, u32>>(&rt, rt.alloc())
+fn two_nodes(rt: HostRuntime) {
+    draw_compact(&rt, rt.alloc(), Picture::TwoNodes);
 }
 
 fn draw_escapes<S: Store<u32, NodeWeight = Text, EdgeWeight = Text>>(
     rt: &impl Abort,
     alloc: Global,
-) -> Result<(), Fail> {
+) {
     let names = ["say \"sow\"\nC:\\new\\", "日本 \u{1F33E}"];
     let graph: S = graph_of(rt, alloc, &names, &[(0, 1, "säen & <b>&amp;</b>")]);
     let text = "digraph {
@@ -91,18 +124,18 @@ fn draw_escapes<S: Store<u32, NodeWeight = Text, EdgeWeight = Text>>(
     0 -> 1 [ label = \"säen &amp; <b>&amp;amp;</b>\" ]
 }
 ";
-    shows(rt, alloc, Dot::of_graph(&graph), text)
+    shows(rt, alloc, Dot::of_graph(&graph), text);
 }
 
 #[test]
-fn escapes(rt: HostRuntime) -> Result<(), Fail> {
-    draw_escapes::<DiGraph<Text, Text, u32>>(&rt, rt.alloc())
+fn escapes(rt: HostRuntime) {
+    draw_escapes::<DiGraph<Text, Text, u32>>(&rt, rt.alloc());
 }
 
 fn draw_parallel_edges_and_a_cycle<S: Store<u32, NodeWeight = Text, EdgeWeight = u32>>(
     rt: &impl Abort,
     alloc: Global,
-) -> Result<(), Fail> {
+) {
     let edges = [(0, 1, 90), (0, 1, 80), (1, 0, 5)];
     let graph: S = graph_of(rt, alloc, &["sow", "reap"], &edges);
     let text = "digraph {
@@ -114,24 +147,24 @@ fn draw_parallel_edges_and_a_cycle<S: Store<u32, NodeWeight = Text, EdgeWeight =
 }
 ";
     let path = [node(rt, 0), node(rt, 1)];
-    shows(rt, alloc, Dot::of_graph(&graph).bold(&path), text)
+    shows(rt, alloc, Dot::of_graph(&graph).bold(&path), text);
 }
 
 #[test]
-fn parallel_edges_and_a_cycle(rt: HostRuntime) -> Result<(), Fail> {
-    draw_parallel_edges_and_a_cycle::<StableDiGraph<Text, u32, u32>>(&rt, rt.alloc())
+fn parallel_edges_and_a_cycle(rt: HostRuntime) {
+    draw_stable(&rt, rt.alloc(), Picture::Cycle);
 }
 
 fn draw_vacant_slots<S: Store<u32, NodeWeight = Text, EdgeWeight = u32>>(
     rt: &impl Abort,
     alloc: Global,
-) -> Result<(), Fail> {
+) {
     let edges = [(0, 1, 30), (0, 2, 90)];
     let mut graph: S = graph_of(rt, alloc, &["sow", "hoe", "reap"], &edges);
     let (sow, hoe, reap) = (node(rt, 0), node(rt, 1), node(rt, 2));
     let _ = graph.remove_node(hoe);
     // A node that does not exist is on no rank, and no edge is on a path past it.
-    let stages = vec![in alloc; vec![in alloc; sow]?, vec![in alloc; hoe, reap]?]?;
+    let stages = [list(rt, alloc, &[sow]), list(rt, alloc, &[hoe, reap])];
     let path = [sow, hoe, reap];
     let text = "digraph {
     0 [ label = \"sow\" style = bold ]
@@ -141,13 +174,13 @@ fn draw_vacant_slots<S: Store<u32, NodeWeight = Text, EdgeWeight = u32>>(
     { rank = same; 2; }
 }
 ";
-    let dot = Dot::of_graph(&graph).ranks(stages.as_slice()).bold(&path);
-    shows(rt, alloc, dot, text)
+    let dot = Dot::of_graph(&graph).ranks(&stages).bold(&path);
+    shows(rt, alloc, dot, text);
 }
 
 #[test]
-fn vacant_slots(rt: HostRuntime) -> Result<(), Fail> {
-    draw_vacant_slots::<StableDiGraph<Text, u32, u32>>(&rt, rt.alloc())
+fn vacant_slots(rt: HostRuntime) {
+    draw_stable(&rt, rt.alloc(), Picture::VacantSlots);
 }
 
 // Labels a node by its index and its weight, in a box.
@@ -177,7 +210,7 @@ impl Label<EdgeIndex, ()> for Numbers {
 fn draw_labels_of_ones_own<S: Store<u32, NodeWeight = u32, EdgeWeight = ()>>(
     rt: &impl Abort,
     alloc: Global,
-) -> Result<(), Fail> {
+) {
     let graph: S = graph_of(rt, alloc, &[3, 5], &[(0, 1, ())]);
     let text = "digraph {
     0 [ label = \"0: 3 \\\"days\\\"\" shape = box ]
@@ -189,18 +222,18 @@ fn draw_labels_of_ones_own<S: Store<u32, NodeWeight = u32, EdgeWeight = ()>>(
     let dot = Dot::of_graph(&graph)
         .node_labels(labels)
         .edge_labels(Numbers);
-    shows(rt, alloc, dot, text)
+    shows(rt, alloc, dot, text);
 }
 
 #[test]
-fn labels_of_ones_own(rt: HostRuntime) -> Result<(), Fail> {
-    draw_labels_of_ones_own::<DiGraph<u32, (), u32>>(&rt, rt.alloc())
+fn labels_of_ones_own(rt: HostRuntime) {
+    draw_labels_of_ones_own::<DiGraph<u32, (), u32>>(&rt, rt.alloc());
 }
 
 fn draw_no_labels<S: Store<u32, NodeWeight = u32, EdgeWeight = ()>>(
     rt: &impl Abort,
     alloc: Global,
-) -> Result<(), Fail> {
+) {
     let graph: S = graph_of(rt, alloc, &[3, 5], &[(0, 1, ())]);
     let text = "digraph {
     0 [ label = \"3\" style = bold ]
@@ -210,7 +243,7 @@ fn draw_no_labels<S: Store<u32, NodeWeight = u32, EdgeWeight = ()>>(
 ";
     let path = [node(rt, 0)];
     let dot = Dot::of_graph(&graph).no_edge_labels().bold(&path);
-    shows(rt, alloc, dot, text)?;
+    shows(rt, alloc, dot, text);
     let text = "digraph {
     0 [ ]
     1 [ ]
@@ -218,28 +251,28 @@ fn draw_no_labels<S: Store<u32, NodeWeight = u32, EdgeWeight = ()>>(
 }
 ";
     let dot = Dot::of_graph(&graph).node_labels(NoLabels).no_edge_labels();
-    shows(rt, alloc, dot, text)
+    shows(rt, alloc, dot, text);
 }
 
 #[test]
-fn no_labels(rt: HostRuntime) -> Result<(), Fail> {
-    draw_no_labels::<DiGraph<u32, (), u32>>(&rt, rt.alloc())
+fn no_labels(rt: HostRuntime) {
+    draw_no_labels::<DiGraph<u32, (), u32>>(&rt, rt.alloc());
 }
 
 fn draw_ranks_and_a_path<S: Store<u32, NodeWeight = Text, EdgeWeight = u32>>(
     rt: &impl Abort,
     alloc: Global,
-) -> Result<(), Fail> {
+) {
     let names = ["sow", "hoe", "mow", "reap"];
     let edges = [(0, 1, 30), (0, 2, 20), (1, 3, 60)];
     let graph: S = graph_of(rt, alloc, &names, &edges);
     let (sow, hoe) = (node(rt, 0), node(rt, 1));
     let (mow, reap) = (node(rt, 2), node(rt, 3));
-    let stages = vec![in alloc;
-        vec![in alloc; sow]?,
-        vec![in alloc; hoe, mow]?,
-        vec![in alloc; reap]?,
-    ]?;
+    let stages = [
+        list(rt, alloc, &[sow]),
+        list(rt, alloc, &[hoe, mow]),
+        list(rt, alloc, &[reap]),
+    ];
     let path = [sow, hoe, reap];
     let text = "digraph {
     0 [ label = \"sow\" style = bold ]
@@ -254,13 +287,13 @@ fn draw_ranks_and_a_path<S: Store<u32, NodeWeight = Text, EdgeWeight = u32>>(
     { rank = same; 3; }
 }
 ";
-    let dot = Dot::of_graph(&graph).bold(&path).ranks(stages.as_slice());
-    shows(rt, alloc, dot, text)
+    let dot = Dot::of_graph(&graph).bold(&path).ranks(&stages);
+    shows(rt, alloc, dot, text);
 }
 
 #[test]
-fn ranks_and_a_path(rt: HostRuntime) -> Result<(), Fail> {
-    draw_ranks_and_a_path::<DiGraph<Text, u32, u32>>(&rt, rt.alloc())
+fn ranks_and_a_path(rt: HostRuntime) {
+    draw_compact(&rt, rt.alloc(), Picture::Ranks);
 }
 
 // A writer with room for a number of bytes.
@@ -279,24 +312,31 @@ impl Write for Narrow {
     }
 }
 
-#[test]
-fn a_writer_that_fails(rt: HostRuntime) -> Result<(), Fail> {
-    let graph: DiGraph<Text, u32, u32> = graph_of(
-        &rt,
-        rt.alloc(),
-        &["s\"w", "reap"],
-        &[(0, 1, 90)],
-    );
-    let path = [node(&rt, 0), node(&rt, 1)];
-    let stages = vec![in rt.alloc(); vec![in rt.alloc(); path[0], path[1]]?]?;
-    let dot = Dot::of_graph(&graph).bold(&path).ranks(stages.as_slice());
-    let whole = format!(in rt.alloc(); "{dot}")?.len();
-    for room in 0..whole {
-        let mut out = Narrow { room };
-        assert!(rt; out.write(&dot).is_err());
+// How much room is left behind a picture, if it fits.
+fn room_behind<D: Display>(dot: &D, room: usize) -> Option<usize> {
+    let mut out = Narrow { room };
+    match out.write(dot) {
+        Ok(()) => Some(out.room),
+        Err(_) => None,
     }
-    let mut out = Narrow { room: whole };
-    assert!(rt; out.write(&dot).is_ok());
-    assert!(rt; out.room == 0);
-    Ok(())
+}
+
+fn draw_in_little_room<S: Store<u32, NodeWeight = Text, EdgeWeight = u32>>(
+    rt: &impl Abort,
+    alloc: Global,
+) {
+    let graph: S = graph_of(rt, alloc, &["s\"w", "reap"], &[(0, 1, 90)]);
+    let path = [node(rt, 0), node(rt, 1)];
+    let stages = [list(rt, alloc, &path)];
+    let dot = Dot::of_graph(&graph).bold(&path).ranks(&stages);
+    let whole = made(rt, format!(in alloc; "{dot}")).len();
+    for room in 0..whole {
+        same(rt, room_behind(&dot, room), None);
+    }
+    same(rt, room_behind(&dot, whole), Some(0));
+}
+
+#[test]
+fn a_writer_that_fails(rt: HostRuntime) {
+    draw_compact(&rt, rt.alloc(), Picture::InLittleRoom);
 }

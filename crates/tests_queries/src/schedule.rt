@@ -5,6 +5,7 @@ mod assignments;
 mod keys;
 mod orders;
 mod refusals;
+mod scenes;
 mod schedules;
 mod support;
 mod workers;

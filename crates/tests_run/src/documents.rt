@@ -2,6 +2,7 @@
 
 mod random;
 mod reading;
+mod scenes;
 mod streaming;
 mod support;
 mod texts;

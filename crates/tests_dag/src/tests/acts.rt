@@ -1,10 +1,10 @@
 //! What is done with a dag of either kind beside the calls of a table.
 use super::closing::{close_chain, close_path};
-use super::kinds::{Compact, Kind, Line, Made, Plain, Stable, Three};
+use super::kinds::{Compact, Kind, Line, Made, Plain, Stable, Three, put_second};
 use super::retaining::{keep_edges, keep_nodes};
 use super::support::{edge, holds, made, node, same};
 use super::table::{Answer, Call, Row, play};
-use super::visiting::{read, reset, visit, write};
+use super::visiting::{keep_pairs, read, reset, visit, write};
 use daggy_base::index::Direction;
 use daggy_dag::acyclic::Acyclic;
 use std::alloc::Global;
@@ -58,6 +58,10 @@ pub enum Act<'a> {
     KeepNodes(u32, u64),
     /// The same with edges.
     KeepEdges(u32, u64),
+    /// A matrix keeps the pairs of its time.
+    KeepPairs,
+    /// Each weight of a node is doubled and each of an edge raised, with these calls.
+    Update(u64, u64),
     /// Closures read the weights from tables: that of a map, of a part with all nodes and edges, and
     /// of an update. A table of calls is played over each of the three.
     Tables(&'a [u32], &'a [u32], &'a [Row<'a>]),
@@ -199,6 +203,7 @@ fn make_or_walk<S: Kind>(rt: &impl Abort, alloc: Global, dag: &mut Plain<S>, act
             holds(rt, S::with_capacity(alloc, nodes, edges).is_err());
         }
         Act::Through(nodes, edges) => through(rt, alloc, dag, nodes, edges),
+        Act::KeepPairs => keep_pairs(rt, alloc, dag),
         Act::Along(n, dir, nodes, edges) => along(rt, alloc, dag, (n, dir), nodes, edges),
         _ => write_or_read(rt, dag, act),
     }
@@ -229,8 +234,9 @@ fn keep_or_close<S: Kind>(rt: &impl Abort, dag: &mut Plain<S>, act: Act<'_>) {
     match act {
         Act::KeepNodes(without, noted) => keep_nodes(rt, dag, without, noted),
         Act::KeepEdges(without, noted) => keep_edges(rt, dag, without, noted),
+        Act::Update(nodes, edges) => same(rt, S::update(dag), (nodes, edges)),
         Act::PutSecond(node, edge, nodes, edges) => {
-            same(rt, S::put_second(dag, node, edge), (nodes, edges));
+            same(rt, put_second(dag, node, edge), (nodes, edges));
         }
         Act::References => same(rt, S::equal_references(dag), (true, false)),
         Act::ClosePath => close_path(rt, dag),
@@ -244,6 +250,21 @@ pub fn dag_of<S: Kind>(rt: &impl Abort, alloc: Global, rows: &[Row<'_>]) -> Plai
     let mut dag: Plain<S> = Acyclic::new(alloc);
     play(rt, alloc, &mut dag, rows);
     dag
+}
+
+/// A new compact dag, over which a table was played.
+pub fn compact_of(rt: &impl Abort, alloc: Global, rows: &[Row<'_>]) -> Plain<Compact> {
+    dag_of(rt, alloc, rows)
+}
+
+/// A new stable dag, likewise.
+pub fn stable_of(rt: &impl Abort, alloc: Global, rows: &[Row<'_>]) -> Plain<Stable> {
+    dag_of(rt, alloc, rows)
+}
+
+/// Plays a table over a stable dag.
+pub fn play_stable(rt: &impl Abort, alloc: Global, dag: &mut Plain<Stable>, rows: &[Row<'_>]) {
+    play(rt, alloc, dag, rows);
 }
 
 fn apply_all<S: Kind>(rt: &impl Abort, alloc: Global, dag: &mut Plain<S>, acts: &[Act<'_>]) {

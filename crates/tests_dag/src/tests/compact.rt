@@ -1,12 +1,11 @@
 //! Capacity, and what only compact dags have: room that is reserved and given back, slices of all
 //! nodes and edges, and all weights written in a row.
-use super::acts::{Act, TRIANGLE, both, compact, dag_of};
-use super::kinds::{Compact, Kind, Plain, Three, note};
+use super::acts::{Act, TRIANGLE, both, compact, compact_of, dag_of};
+use super::kinds::{Compact, Kind, Plain, Three};
 use super::support::{holds, same};
 use super::table::{Answer, Call, Row, play};
 use daggy_base::index::{Direction, EdgeIndex, NodeIndex};
 use std::alloc::{AllocError, Global};
-use std::cell::Cell;
 use std::process::Abort;
 
 const AGAIN: [Row<'static>; 7] = [
@@ -122,19 +121,8 @@ fn an_update_shows_each_node_or_each_edge(rt: HostRuntime) {
         (Call::Stored(2), Answer::Stored(1, 2, 103)),
         (Call::Edge(2, 0, 7), Answer::Cycle(7)),
     ];
-    let mut dag: Plain<Compact> = dag_of(&rt, rt.alloc(), &TRIANGLE);
-    let calls = Cell::new(0);
-    dag.update_node_weights(|n, weight| {
-        note(&calls, 1, n.index());
-        *weight = weight.wrapping_mul(2);
-    });
-    same(&rt, calls.take(), 101112);
-    dag.update_edge_weights(|e, weight| {
-        note(&calls, 2, e.index());
-        *weight = weight.wrapping_add(1);
-    });
-    same(&rt, calls.get(), 202122);
-    play(&rt, rt.alloc(), &mut dag, ROWS);
+    const ACTS: &[Act<'static>] = &[Act::Update(101112, 202122), Act::Rows(ROWS)];
+    compact(&rt, rt.alloc(), &TRIANGLE, ACTS);
 }
 
 #[test]
@@ -151,18 +139,30 @@ fn closures_read_tables_of_the_size_of_a_compact_dag(rt: HostRuntime) {
     compact(&rt, rt.alloc(), &TRIANGLE, ACTS);
 }
 
-#[test]
-fn slices_follow_a_removal(rt: HostRuntime) {
-    let mut dag: Plain<Compact> = dag_of(&rt, rt.alloc(), &TRIANGLE);
-    same(&rt, dag.remove_edge(EdgeIndex::new(0)), Some(100));
+// Asserts what the slices of a triangle are without its first edge.
+fn are_slices(rt: &impl Abort, dag: &Plain<Compact>) {
     let nodes = dag.raw_nodes();
     let edges = dag.raw_edges();
-    holds(&rt, nodes.len() == 3);
-    holds(&rt, edges.len() == 2);
+    holds(rt, nodes.len() == 3);
+    holds(rt, edges.len() == 2);
     let incoming = Direction::Incoming;
-    same(&rt, nodes[1].next_edge(incoming), EdgeIndex::end());
-    same(&rt, edges[0].next_edge(incoming), EdgeIndex::new(1));
-    same(&rt, edges[0].source(), NodeIndex::new(1));
+    same(rt, nodes[1].next_edge(incoming), EdgeIndex::end());
+    same(rt, edges[0].next_edge(incoming), EdgeIndex::new(1));
+    same(rt, edges[0].source(), NodeIndex::new(1));
+}
+
+#[test]
+fn slices_follow_a_removal(rt: HostRuntime) {
+    const ROWS: &[Row<'static>] = &[
+        (Call::Nodes(3), Answer::Done),
+        (
+            Call::Edges(&[(0, 1, 100), (0, 2, 101), (1, 2, 102)]),
+            Answer::Edges(&[0, 1, 2]),
+        ),
+        (Call::RemoveEdge(0), Answer::Weight(100)),
+    ];
+    let dag = compact_of(&rt, rt.alloc(), ROWS);
+    are_slices(&rt, &dag);
 }
 
 #[test]

@@ -1,10 +1,10 @@
 //! The graph that a dag becomes, and the dag of the other kind.
-use super::acts::dag_of;
+use super::acts::{compact_of, dag_of, play_stable, stable_of};
 use super::kinds::{Compact, CompactTexts, Kind, Plain, Stable, StableTexts, TextDag, TextKind};
 use super::support::{holds, made, reads, same, text};
-use super::table::{Answer, Call, Row, play};
+use super::table::{Answer, Call, Row};
 use daggy_base::index::NodeIndex;
-use daggy_dag::acyclic::{Acyclic, Dag, StableDag};
+use daggy_dag::acyclic::{Acyclic, StableDag};
 use daggy_graph::graph::DiGraph;
 use daggy_stable::stable_graph::StableDiGraph;
 use std::alloc::Global;
@@ -50,8 +50,7 @@ fn a_dag_gives_its_order_away(rt: HostRuntime) {
         (Call::Node(3), Answer::Node(1)),
         (Call::Edge(1, 0, 2), Answer::Edge(0)),
     ];
-    let dag: Dag<u32, u32, u8> = dag_of(&rt, rt.alloc(), ROWS);
-    let (graph, order) = dag.into_parts();
+    let (graph, order) = compact_of(&rt, rt.alloc(), ROWS).into_parts();
     same(&rt, graph.edge_count(), 1);
     same(&rt, order.len(), 2);
     same(&rt, order.nodes().next(), Some(NodeIndex::new(1)));
@@ -79,9 +78,9 @@ fn a_compact_dag_keeps_its_lists(rt: HostRuntime) {
         (Call::Node(3), Answer::Node(3)),
         (Call::Edge(2, 0, 8), Answer::Cycle(8)),
     ];
-    let compact: Dag<u32, u32, u8> = dag_of(&rt, rt.alloc(), ROWS);
+    let compact = compact_of(&rt, rt.alloc(), ROWS);
     let mut dag = made(&rt, StableDag::from_dag(compact));
-    play(&rt, rt.alloc(), &mut dag, AFTER);
+    play_stable(&rt, rt.alloc(), &mut dag, AFTER);
 }
 
 // A copy of two nodes and the edge between them keeps all three texts when one of the nodes is
@@ -123,10 +122,10 @@ fn a_struct_that_holds_a_dag_is_cloned(rt: HostRuntime) {
         (Call::Stored(0), Answer::Stored(0, 1, 2)),
         (Call::Edge(0, 1, 5), Answer::Edge(1)),
     ];
-    let dag: Plain<Stable> = pair(&rt, rt.alloc());
+    let dag = stable_of(&rt, rt.alloc(), &PAIR);
     let named = Named { dag, name: 7 };
     let mut copy = made(&rt, named.clone());
     same(&rt, copy.name, named.name);
-    play(&rt, rt.alloc(), &mut copy.dag, ROWS);
+    play_stable(&rt, rt.alloc(), &mut copy.dag, ROWS);
     same(&rt, named.dag.edge_count(), 1);
 }

@@ -1,9 +1,10 @@
 //! Iterators over all of a graph and over the lists of a node, of the dag.
-use super::acts::{Act, TRIANGLE, both, dag_of, stable};
+use super::acts::{Act, TRIANGLE, both, stable, stable_of};
 use super::kinds::{Plain, Stable};
 use super::support::{holds, same, shows};
 use super::table::{self, Answer, Call, Row, Scene};
-use daggy_base::index::{Direction, NodeIndex};
+use daggy_base::index::Direction;
+use std::process::Abort;
 
 #[test]
 fn all_nodes_and_edges_of_a_dag_are_gone_through(rt: HostRuntime) {
@@ -66,12 +67,25 @@ fn edges_from_one_node_to_another_are_gone_through(rt: HostRuntime) {
     table::both(&rt, rt.alloc(), Scene::Twice(&TRIANGLE, ROWS));
 }
 
+fn tells_slots(rt: &impl Abort, dag: &Plain<Stable>) {
+    same(rt, dag.node_references().size_hint(), (0, Some(3)));
+    same(rt, dag.edge_references().size_hint(), (0, Some(3)));
+}
+
 #[test]
 fn a_stable_dag_tells_how_many_slots_may_follow(rt: HostRuntime) {
-    let mut dag: Plain<Stable> = dag_of(&rt, rt.alloc(), &TRIANGLE);
-    same(&rt, dag.remove_node(NodeIndex::new(1)), Some(11));
-    same(&rt, dag.node_references().size_hint(), (0, Some(3)));
-    same(&rt, dag.edge_references().size_hint(), (0, Some(3)));
+    const ROWS: &[Row<'static>] = &[
+        (Call::Node(10), Answer::Node(0)),
+        (Call::Node(11), Answer::Node(1)),
+        (Call::Node(12), Answer::Node(2)),
+        (
+            Call::Edges(&[(0, 1, 100), (0, 2, 101), (1, 2, 102)]),
+            Answer::Edges(&[0, 1, 2]),
+        ),
+        (Call::RemoveNode(1), Answer::Weight(11)),
+    ];
+    let dag = stable_of(&rt, rt.alloc(), ROWS);
+    tells_slots(&rt, &dag);
     let wanted = "Dag { graph: StableDiGraph { node_count: 2, edge_count: 1 } }";
     shows(&rt, rt.alloc(), &dag, wanted);
 }

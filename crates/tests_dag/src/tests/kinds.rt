@@ -57,9 +57,9 @@ pub trait Kind: Store<u8, NodeWeight = u32, EdgeWeight = u32> {
     /// Writes the weights that tables have. Returns false if they are too short.
     fn update_by(dag: &mut Plain<Self>, nodes: &[u32], edges: &[u32]) -> bool;
 
-    /// Writes the weights of the second node and the second edge as they are lent. Returns what the
-    /// first three weights of each were.
-    fn put_second(dag: &mut Plain<Self>, node: u32, edge: u32) -> (Three, Three);
+    /// Doubles the weight of each node, and adds 1 to that of each edge. The calls of the two
+    /// closures are noted.
+    fn update(dag: &mut Plain<Self>) -> (u64, u64);
 
     /// Whether two references to the first edge are equal, and whether those to the first two edges
     /// are.
@@ -138,6 +138,16 @@ fn edge_kept(calls: &Cell<u64>, e: EdgeIndex<u8>, weight: &u32) -> Option<u32> {
     Some(*weight)
 }
 
+fn double_node(calls: &Cell<u64>, n: NodeIndex<u8>, weight: &mut u32) {
+    note(calls, 1, n.index());
+    *weight = weight.wrapping_mul(2);
+}
+
+fn raise_edge(calls: &Cell<u64>, e: EdgeIndex<u8>, weight: &mut u32) {
+    note(calls, 2, e.index());
+    *weight = weight.wrapping_add(1);
+}
+
 fn raised(x: &mut u32, y: &mut u32) -> u32 {
     let before = *x;
     *x = before.wrapping_add(100);
@@ -151,6 +161,20 @@ fn put(lent: Option<&mut u32>, weight: u32) -> Option<u32> {
         Some(slot) => Some(mem::replace(slot, weight)),
         None => None,
     }
+}
+
+/// Writes the weights of the second node and the second edge as they are lent. Returns what the first
+/// three weights of each were.
+pub fn put_second<S: Kind>(dag: &mut Plain<S>, node: u32, edge: u32) -> (Three, Three) {
+    let mut nodes = dag.node_weights_mut();
+    let first = nodes.next().copied();
+    let of_nodes = (first, put(nodes.next(), node), nodes.next().copied());
+    let mut edges = dag.edge_weights_mut();
+    let first = edges.next().copied();
+    (
+        of_nodes,
+        (first, put(edges.next(), edge), edges.next().copied()),
+    )
 }
 
 fn line(e: EdgeReference<'_, u32, u8>) -> Line {
@@ -259,16 +283,11 @@ impl Kind for Compact {
         true
     }
 
-    fn put_second(dag: &mut Plain<Self>, node: u32, edge: u32) -> (Three, Three) {
-        let mut nodes = dag.node_weights_mut();
-        let first = nodes.next().copied();
-        let of_nodes = (first, put(nodes.next(), node), nodes.next().copied());
-        let mut edges = dag.edge_weights_mut();
-        let first = edges.next().copied();
-        (
-            of_nodes,
-            (first, put(edges.next(), edge), edges.next().copied()),
-        )
+    fn update(dag: &mut Plain<Self>) -> (u64, u64) {
+        let (nodes, edges) = (Cell::new(0), Cell::new(0));
+        dag.update_node_weights(|n, weight| double_node(&nodes, n, weight));
+        dag.update_edge_weights(|e, weight| raise_edge(&edges, e, weight));
+        (nodes.get(), edges.get())
     }
 
     fn equal_references(dag: &Plain<Self>) -> (bool, bool) {
@@ -404,16 +423,11 @@ impl Kind for Stable {
         true
     }
 
-    fn put_second(dag: &mut Plain<Self>, node: u32, edge: u32) -> (Three, Three) {
-        let mut nodes = dag.node_weights_mut();
-        let first = nodes.next().copied();
-        let of_nodes = (first, put(nodes.next(), node), nodes.next().copied());
-        let mut edges = dag.edge_weights_mut();
-        let first = edges.next().copied();
-        (
-            of_nodes,
-            (first, put(edges.next(), edge), edges.next().copied()),
-        )
+    fn update(dag: &mut Plain<Self>) -> (u64, u64) {
+        let (nodes, edges) = (Cell::new(0), Cell::new(0));
+        dag.update_node_weights(|n, weight| double_node(&nodes, n, weight));
+        dag.update_edge_weights(|e, weight| raise_edge(&edges, e, weight));
+        (nodes.get(), edges.get())
     }
 
     fn equal_references(dag: &Plain<Self>) -> (bool, bool) {

@@ -1,5 +1,5 @@
 //! Dags of which a closure keeps some nodes, or some edges.
-use super::acts::{Act, TRIANGLE, both, compact, dag_of, stable};
+use super::acts::{Act, TRIANGLE, both, compact, compact_of, stable};
 use super::kinds::{Compact, Kind, Plain, note};
 use super::support::{holds, same};
 use super::table::{Answer, Call, Row};
@@ -80,14 +80,19 @@ fn all_is_kept_and_nothing_is_asked_of_an_empty_dag(rt: HostRuntime) {
     both(&rt, rt.alloc(), &TRIANGLE, ALL);
 }
 
+// Keeps what two tables say of a triangle.
+fn keep_by_table(rt: &impl Abort, dag: &mut Plain<Compact>) {
+    let (nodes, edges) = ([true, false, true], [false, true, true]);
+    holds(rt, dag.graph().edge_bound() <= edges.len());
+    dag.retain_edges(|e, _| edges[e.index()]);
+    same(rt, dag.edge_count(), 2);
+    holds(rt, dag.node_bound() <= nodes.len());
+    dag.retain_nodes(|n, _| nodes[n.index()]);
+    same(rt, dag.node_count(), 2);
+}
+
 #[test]
 fn what_is_kept_is_read_from_a_table(rt: HostRuntime) {
-    let mut dag: Plain<Compact> = dag_of(&rt, rt.alloc(), &TRIANGLE);
-    let (nodes, edges) = ([true, false, true], [false, true, true]);
-    holds(&rt, dag.graph().edge_bound() <= edges.len());
-    dag.retain_edges(|e, _| edges[e.index()]);
-    same(&rt, dag.edge_count(), 2);
-    holds(&rt, dag.node_bound() <= nodes.len());
-    dag.retain_nodes(|n, _| nodes[n.index()]);
-    same(&rt, dag.node_count(), 2);
+    let mut dag = compact_of(&rt, rt.alloc(), &TRIANGLE);
+    keep_by_table(&rt, &mut dag);
 }

@@ -1,22 +1,17 @@
 //! All weights of a stable dag that has vacant slots, written in a row.
-use super::acts::{Act, TRIANGLE, dag_of, stable};
-use super::kinds::{Plain, Stable, StableTexts, TextDag, TextKind, note};
+use super::acts::{Act, TRIANGLE, play_stable, stable, stable_of};
+use super::kinds::{Plain, Stable, StableTexts, TextDag, TextKind};
 use super::support::{made, reads, same, text};
-use super::table::{Answer, Call, Row, play};
-use daggy_base::index::{Direction, NodeIndex};
+use super::table::{Answer, Call, Row};
+use daggy_base::index::Direction;
 use daggy_dag::acyclic::Acyclic;
 use std::alloc::Global;
-use std::cell::Cell;
 use std::process::Abort;
 
-// A triangle without its middle node, so that the edge 1 alone is left.
-fn cut_triangle(rt: &impl Abort, alloc: Global) -> Plain<Stable> {
-    let mut dag = dag_of(rt, alloc, &TRIANGLE);
-    same(rt, dag.remove_node(NodeIndex::new(1)), Some(11));
-    dag
-}
+// Removes the middle node of a triangle, so that the edge 1 alone is left.
+const CUT_ROWS: &[Row<'static>] = &[(Call::RemoveNode(1), Answer::Weight(11))];
 
-const CUT: Act<'static> = Act::Rows(&[(Call::RemoveNode(1), Answer::Weight(11))]);
+const CUT: Act<'static> = Act::Rows(CUT_ROWS);
 
 #[test]
 fn weights_are_lent_past_vacant_slots(rt: HostRuntime) {
@@ -42,19 +37,8 @@ fn an_update_shows_what_is_in_no_vacant_slot(rt: HostRuntime) {
         (Call::Stored(1), Answer::Stored(0, 2, 102)),
         (Call::Edge(2, 0, 7), Answer::Cycle(7)),
     ];
-    let mut dag = cut_triangle(&rt, rt.alloc());
-    let calls = Cell::new(0);
-    dag.update_node_weights(|n, weight| {
-        note(&calls, 1, n.index());
-        *weight = weight.wrapping_mul(2);
-    });
-    same(&rt, calls.take(), 1012);
-    dag.update_edge_weights(|e, weight| {
-        note(&calls, 2, e.index());
-        *weight = weight.wrapping_add(1);
-    });
-    same(&rt, calls.get(), 21);
-    play(&rt, rt.alloc(), &mut dag, ROWS);
+    const ACTS: &[Act<'static>] = &[CUT, Act::Update(1012, 21), Act::Rows(ROWS)];
+    stable(&rt, rt.alloc(), &TRIANGLE, ACTS);
 }
 
 #[test]
@@ -68,15 +52,8 @@ fn closures_read_tables_of_the_bounds_of_a_stable_dag(rt: HostRuntime) {
     stable(&rt, rt.alloc(), &TRIANGLE, ACTS);
 }
 
-#[test]
-fn weights_of_a_stable_dag_are_recomputed_from_those_of_parents(rt: HostRuntime) {
-    const ROWS: &[Row<'static>] = &[
-        (Call::Weight(0), Answer::Weight(1)),
-        (Call::Weight(1), Answer::Nothing),
-        (Call::Weight(2), Answer::Weight(2)),
-        (Call::Stored(1), Answer::Stored(0, 2, 101)),
-    ];
-    let mut dag = cut_triangle(&rt, rt.alloc());
+// Makes the weight of each node greater by one than those of its parents together.
+fn sum_parents(dag: &mut Plain<Stable>) {
     dag.recompute(|graph, n| {
         let mut sum = 1;
         for parent in graph.neighbors_directed(n, Direction::Incoming) {
@@ -88,7 +65,20 @@ fn weights_of_a_stable_dag_are_recomputed_from_those_of_parents(rt: HostRuntime)
         }
         sum
     });
-    play(&rt, rt.alloc(), &mut dag, ROWS);
+}
+
+#[test]
+fn weights_of_a_stable_dag_are_recomputed_from_those_of_parents(rt: HostRuntime) {
+    const ROWS: &[Row<'static>] = &[
+        (Call::Weight(0), Answer::Weight(1)),
+        (Call::Weight(1), Answer::Nothing),
+        (Call::Weight(2), Answer::Weight(2)),
+        (Call::Stored(1), Answer::Stored(0, 2, 101)),
+    ];
+    let mut dag = stable_of(&rt, rt.alloc(), &TRIANGLE);
+    play_stable(&rt, rt.alloc(), &mut dag, CUT_ROWS);
+    sum_parents(&mut dag);
+    play_stable(&rt, rt.alloc(), &mut dag, ROWS);
 }
 
 // The first node is removed again, so the second is the first that gets a text. The edge from it

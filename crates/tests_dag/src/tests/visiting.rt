@@ -1,6 +1,6 @@
 //! Code over the traits of graphs, and sets and matrices for a dag.
-use super::acts::{Act, both, dag_of, stable};
-use super::kinds::{Compact, Kind, Plain, Stable};
+use super::acts::{Act, both, compact_of, stable};
+use super::kinds::{Kind, Plain};
 use super::support::{holds, made, same, shows};
 use super::table::{Answer, Call, Row, edge_added, is, node_added};
 use daggy_base::index::{EdgeIndex, NodeIndex};
@@ -217,12 +217,12 @@ fn bounds_end_with_the_last_in_use(rt: HostRuntime) {
 
 #[test]
 fn a_compact_dag_has_a_node_at_each_index(rt: HostRuntime) {
-    let dag: Plain<Compact> = dag_of(&rt, rt.alloc(), &THREE);
+    let dag = compact_of(&rt, rt.alloc(), &THREE);
     same(&rt, is_full(&dag), true);
 }
 
-// A matrix has the pairs of its time, and it and a set know their bounds.
-fn keep_pairs<S: Kind>(rt: &impl Abort, alloc: Global, dag: &mut Plain<S>) {
+/// A matrix has the pairs of its time, and it and a set know their bounds.
+pub fn keep_pairs<S: Kind>(rt: &impl Abort, alloc: Global, dag: &mut Plain<S>) {
     let (a, b, c) = (NodeIndex::new(0), NodeIndex::new(1), NodeIndex::new(2));
     let matrix = made(rt, dag.adjacency_matrix());
     is(rt, edge_added(rt, dag, (1, 2), 9), Answer::Edge(1));
@@ -237,6 +237,5 @@ fn keep_pairs<S: Kind>(rt: &impl Abort, alloc: Global, dag: &mut Plain<S>) {
 
 #[test]
 fn a_matrix_has_the_pairs_of_its_time(rt: HostRuntime) {
-    let mut dag: Plain<Stable> = dag_of(&rt, rt.alloc(), &THREE);
-    keep_pairs(&rt, rt.alloc(), &mut dag);
+    stable(&rt, rt.alloc(), &THREE, &[Act::KeepPairs]);
 }

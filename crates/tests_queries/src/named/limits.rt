@@ -1,29 +1,39 @@
 //! A dag whose index type has no index left.
+use super::support::{add, depend, remove};
 use crate::support::{made, same};
 use daggy_named::error::{AddError, DependError};
 use daggy_named::named::Named;
+use std::process::Abort;
+
+type Small = Named<u32, (), (), u8>;
+
+// Adds as many nodes and edges as there are indices.
+fn fill(rt: &impl Abort, dag: &mut Small) {
+    for key in 0..255 {
+        made(rt, add(dag, key, ()));
+    }
+    for _edge in 0..255 {
+        made(rt, depend(dag, &0, &1, ()));
+    }
+}
+
+fn add_too_much(rt: &impl Abort, dag: &mut Small) {
+    fill(rt, dag);
+    same(rt, add(dag, 255, ()), Err(AddError::Full(255, ())));
+    // A taken key is reported before a lack of indices.
+    same(rt, add(dag, 3, ()), Err(AddError::Taken(3, ())));
+    same(rt, depend(dag, &0, &1, ()), Err(DependError::Full(())));
+    same(rt, depend(dag, &1, &0, ()), Err(DependError::Full(())));
+    let unknown = depend(dag, &1, &255, ());
+    same(rt, unknown, Err(DependError::UnknownDependent(())));
+    // A removal makes room.
+    same(rt, remove(dag, &1), Some((1, ())));
+    made(rt, add(dag, 255, ()));
+    made(rt, depend(dag, &0, &255, ()));
+}
 
 #[test]
 fn no_index_is_left(rt: HostRuntime) {
-    let mut dag: Named<u32, (), (), u8> = Named::new(rt.alloc());
-    for key in 0..255 {
-        made(&rt, dag.add(key, ()));
-    }
-    same(&rt, dag.add(255, ()), Err(AddError::Full(255, ())));
-    // A taken key is reported before a lack of indices.
-    same(&rt, dag.add(3, ()), Err(AddError::Taken(3, ())));
-    for _edge in 0..255 {
-        made(&rt, dag.depend(&0, &1, ()));
-    }
-    same(&rt, dag.depend(&0, &1, ()), Err(DependError::Full(())));
-    same(&rt, dag.depend(&1, &0, ()), Err(DependError::Full(())));
-    same(
-        &rt,
-        dag.depend(&1, &255, ()),
-        Err(DependError::UnknownDependent(())),
-    );
-    // A removal makes room.
-    same(&rt, dag.remove(&1), Some((1, ())));
-    made(&rt, dag.add(255, ()));
-    made(&rt, dag.depend(&0, &255, ()));
+    let mut dag: Small = Named::new(rt.alloc());
+    add_too_much(&rt, &mut dag);
 }

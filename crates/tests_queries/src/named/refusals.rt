@@ -1,6 +1,7 @@
 //! Calls while memory is refused once. `rt try --test --fail-alloc N` refuses the Nth allocation: a
 //! call that is refused says so, changes nothing, and succeeds when it is made again.
-use super::support::goes;
+use super::steps::Numbers;
+use super::support::{add, depend, goes, index_of, remove};
 use crate::support::{made, same};
 use daggy_base::index::NodeIndex;
 use daggy_named::error::{AddError, DependError};
@@ -8,55 +9,60 @@ use daggy_named::named::Named;
 use std::alloc::AllocError;
 use std::process::Abort;
 
-fn add_again(rt: &impl Abort, dag: &mut Named<u32, u64, u64>, key: u32) -> NodeIndex {
+fn add_again(rt: &impl Abort, dag: &mut Numbers, key: u32) -> NodeIndex {
     let count = dag.node_count();
-    match dag.add(key, u64::from(key)) {
+    match add(dag, key, u64::from(key)) {
         Ok(n) => n,
         Err(AddError::Memory(key, weight)) => {
-            same(
-                rt,
-                (dag.node_count(), dag.index_of(&key).is_some()),
-                (count, false),
-            );
+            let (left, is_there) = (dag.node_count(), index_of(dag, &key).is_some());
+            same(rt, (left, is_there), (count, false));
             same(rt, weight, u64::from(key));
-            made(rt, dag.add(key, weight))
+            made(rt, add(dag, key, weight))
         }
         Err(_) => panic!(rt; "the key is not taken, and an index is left"),
     }
 }
 
-fn depend_again(rt: &impl Abort, dag: &mut Named<u32, u64, u64>, on: u32, what: u32) {
-    let count = dag.dag().edge_count();
-    match dag.depend(&on, &what, 5) {
+fn depend_again(rt: &impl Abort, dag: &mut Numbers, on: u32, what: u32) {
+    let count = edge_count(dag);
+    match depend(dag, &on, &what, 5) {
         Ok(_) => {}
         Err(DependError::Memory(weight)) => {
-            same(rt, dag.dag().edge_count(), count);
+            same(rt, edge_count(dag), count);
             same(rt, weight, 5);
-            made(rt, dag.depend(&on, &what, weight));
+            made(rt, depend(dag, &on, &what, weight));
         }
         Err(_) => panic!(rt; "the keys are known, and the edge closes no cycle"),
     }
 }
 
-#[test]
-fn refused_calls_are_made_again(rt: HostRuntime) {
-    let mut dag: Named<u32, u64, u64> = Named::new(rt.alloc());
+fn edge_count(dag: &Numbers) -> usize {
+    dag.dag().edge_count()
+}
+
+fn call_again(rt: &impl Abort, dag: &mut Numbers) {
     for key in 0..9 {
-        add_again(&rt, &mut dag, key);
+        add_again(rt, dag, key);
     }
     for key in 0..8 {
-        depend_again(&rt, &mut dag, key, key + 1);
+        depend_again(rt, dag, key, key + 1);
     }
-    let ends = [dag.index_of(&0), dag.index_of(&8)];
+    let ends = [index_of(dag, &0), index_of(dag, &8)];
     let path = match dag.cycle(&1, &0) {
         Ok(path) => path,
-        Err(AllocError) => made(&rt, dag.cycle(&1, &0)),
+        Err(AllocError) => made(rt, dag.cycle(&1, &0)),
     };
-    match (ends[0], dag.index_of(&1)) {
-        (Some(a), Some(b)) => goes(&rt, path, &[a, b]),
+    match (ends[0], index_of(dag, &1)) {
+        (Some(a), Some(b)) => goes(rt, path, &[a, b]),
         _ => panic!(rt; "both keys are known"),
     }
     // A removal allocates nothing, nor does the next addition.
-    same(&rt, dag.remove(&8), Some((8, 8)));
-    same(&rt, dag.add(9, 9).ok(), ends[1]);
+    same(rt, remove(dag, &8), Some((8, 8)));
+    same(rt, add(dag, 9, 9).ok(), ends[1]);
+}
+
+#[test]
+fn refused_calls_are_made_again(rt: HostRuntime) {
+    let mut dag: Numbers = Named::new(rt.alloc());
+    call_again(&rt, &mut dag);
 }

@@ -1,6 +1,7 @@
 //! Tables of calls of a dag whose keys are numbers, with their answers.
-use crate::support::{made, same};
-use daggy_base::index::NodeIndex;
+use super::support::{add, depend, index_of, remove, weight};
+use crate::support::{made, node, same};
+use daggy_base::index::{EdgeIndex, NodeIndex};
 use daggy_named::error::{AddError, DependError};
 use daggy_named::named::Named;
 use std::alloc::Global;
@@ -42,11 +43,6 @@ pub enum Step {
     Counts(usize, usize),
 }
 
-fn node(rt: &impl Abort, index: usize) -> NodeIndex {
-    assert!(rt; index <= NodeIndex::<u32>::end().index());
-    NodeIndex::new(index)
-}
-
 fn error(refusal: Refusal, weight: u64) -> DependError<u64> {
     match refusal {
         Refusal::UnknownDependency => DependError::UnknownDependency(weight),
@@ -56,8 +52,8 @@ fn error(refusal: Refusal, weight: u64) -> DependError<u64> {
 }
 
 fn find(rt: &impl Abort, dag: &Numbers, key: u32, wanted: Option<(usize, u64)>) {
-    match (dag.index_of(&key), dag.weight(&key)) {
-        (Some(n), Some(weight)) => same(rt, Some((n.index(), *weight)), wanted),
+    match (index_of(dag, &key), weight(dag, &key)) {
+        (Some(n), Some(weight)) => same(rt, Some((n.index(), weight)), wanted),
         (None, None) => same(rt, None, wanted),
         _ => panic!(rt; "a key has an index and a weight, or neither"),
     }
@@ -73,26 +69,41 @@ fn write(rt: &impl Abort, dag: &mut Numbers, key: u32, weight: u64, wanted: bool
     }
 }
 
-fn depend(rt: &impl Abort, dag: &mut Numbers, ends: (u32, u32), weight: u64, edge: usize) {
+fn put_edge(rt: &impl Abort, dag: &mut Numbers, ends: (u32, u32), weight: u64, edge: usize) {
     let (on, what) = ends;
-    let e = made(rt, dag.depend(&on, &what, weight));
+    let e = made(rt, depend(dag, &on, &what, weight));
     same(rt, e.index(), edge);
-    same(rt, dag.dag().edge_weight(e).copied(), Some(weight));
-    let ends = (dag.index_of(&on), dag.index_of(&what));
-    match dag.dag().edge_endpoints(e) {
-        Some((a, b)) => same(rt, ends, (Some(a), Some(b))),
-        None => panic!(rt; "the edge is there"),
+    let (found, between) = edge_of(dag, e);
+    same(rt, found, Some(weight));
+    match (between, index_of(dag, &on), index_of(dag, &what)) {
+        (Some(ends), Some(a), Some(b)) => same(rt, ends, (a, b)),
+        _ => panic!(rt; "the edge is there"),
     }
+}
+
+// The weight and the ends of an edge.
+fn edge_of(dag: &Numbers, e: EdgeIndex) -> (Option<u64>, Option<(NodeIndex, NodeIndex)>) {
+    let dag = dag.dag();
+    (dag.edge_weight(e).copied(), dag.edge_endpoints(e))
+}
+
+fn counts(rt: &impl Abort, dag: &Numbers, nodes: usize, edges: usize) {
+    same(
+        rt,
+        (dag.node_count(), dag.dag().edge_count()),
+        (nodes, edges),
+    );
+    same(rt, dag.is_empty(), nodes == 0);
 }
 
 fn change(rt: &impl Abort, dag: &mut Numbers, step: Step) {
     match step {
-        Step::Add(key, weight, n) => same(rt, made(rt, dag.add(key, weight)).index(), n),
+        Step::Add(key, weight, n) => same(rt, made(rt, add(dag, key, weight)).index(), n),
         Step::GetOrAdd(key, weight, n) => {
             same(rt, made(rt, dag.get_or_add(key, weight)).index(), n);
         }
-        Step::Depend(on, what, weight, edge) => depend(rt, dag, (on, what), weight, edge),
-        Step::Remove(key, wanted) => match (dag.remove(&key), wanted) {
+        Step::Depend(on, what, weight, edge) => put_edge(rt, dag, (on, what), weight, edge),
+        Step::Remove(key, wanted) => match (remove(dag, &key), wanted) {
             (Some(removed), Some(weight)) => same(rt, removed, (key, weight)),
             (None, None) => {}
             _ => panic!(rt; "a key is removed if it was added"),
@@ -104,23 +115,16 @@ fn change(rt: &impl Abort, dag: &mut Numbers, step: Step) {
 fn play_step(rt: &impl Abort, dag: &mut Numbers, step: Step) {
     match step {
         Step::Taken(key, weight) => {
-            same(rt, dag.add(key, weight), Err(AddError::Taken(key, weight)));
+            same(rt, add(dag, key, weight), Err(AddError::Taken(key, weight)));
         }
         Step::Refused(on, what, weight, refusal) => {
             let wanted = Err(error(refusal, weight));
-            same(rt, dag.depend(&on, &what, weight), wanted);
+            same(rt, depend(dag, &on, &what, weight), wanted);
         }
         Step::Find(key, wanted) => find(rt, dag, key, wanted),
         Step::Key(n, wanted) => same(rt, dag.key_of(node(rt, n)).copied(), wanted),
         Step::Write(key, weight, wanted) => write(rt, dag, key, weight, wanted),
-        Step::Counts(nodes, edges) => {
-            same(
-                rt,
-                (dag.node_count(), dag.dag().edge_count()),
-                (nodes, edges),
-            );
-            same(rt, dag.is_empty(), nodes == 0);
-        }
+        Step::Counts(nodes, edges) => counts(rt, dag, nodes, edges),
         _ => change(rt, dag, step),
     }
 }
@@ -128,7 +132,11 @@ fn play_step(rt: &impl Abort, dag: &mut Numbers, step: Step) {
 /// Makes the calls of a table with a new dag, and asserts that each has its answer.
 pub fn play(rt: &impl Abort, alloc: Global, steps: &[Step]) {
     let mut dag: Numbers = Named::new(alloc);
+    play_all(rt, &mut dag, steps);
+}
+
+fn play_all(rt: &impl Abort, dag: &mut Numbers, steps: &[Step]) {
     for step in steps {
-        play_step(rt, &mut dag, *step);
+        play_step(rt, dag, *step);
     }
 }

@@ -1,11 +1,10 @@
 //! Schedules on workers that were worked out by hand.
+use super::scenes::{Scene, compact, stable};
 use super::support::{Plain, dag_of, times};
 use crate::support::{holds, made, node, same};
 use daggy_base::store::Store;
-use daggy_graph::graph::DiGraph;
 use daggy_schedule::on_workers::{Assignment, schedule_on};
 use daggy_schedule::schedule::ScheduleError;
-use daggy_stable::stable_graph::StableDiGraph;
 use std::alloc::Global;
 use std::num::NonZeroUsize;
 use std::process::Abort;
@@ -88,7 +87,7 @@ fn assigns_too_much<S: Store<u32, NodeWeight = u64, EdgeWeight = ()>>(
     holds(rt, matches!(two, Err(ScheduleError::Overflow)));
 }
 
-fn assigns_in_all_ways<S: Store<u32, NodeWeight = u64, EdgeWeight = ()>>(
+pub fn assigns_in_all_ways<S: Store<u32, NodeWeight = u64, EdgeWeight = ()>>(
     rt: &impl Abort,
     alloc: Global,
 ) {
@@ -99,7 +98,7 @@ fn assigns_in_all_ways<S: Store<u32, NodeWeight = u64, EdgeWeight = ()>>(
 }
 
 // The same, and past a vacant slot.
-fn assigns_past_a_slot<S: Store<u32, NodeWeight = u64, EdgeWeight = ()>>(
+pub fn assigns_past_a_slot<S: Store<u32, NodeWeight = u64, EdgeWeight = ()>>(
     rt: &impl Abort,
     alloc: Global,
 ) {
@@ -112,10 +111,10 @@ fn assigns_past_a_slot<S: Store<u32, NodeWeight = u64, EdgeWeight = ()>>(
 
 #[test]
 fn assigns_dags(rt: HostRuntime) {
-    assigns_in_all_ways::<DiGraph<u64, (), u32>>(&rt, rt.alloc());
+    compact(&rt, rt.alloc(), Scene::Assigns);
 }
 
 #[test]
 fn assigns_stable_dags(rt: HostRuntime) {
-    assigns_past_a_slot::<StableDiGraph<u64, (), u32>>(&rt, rt.alloc());
+    stable(&rt, rt.alloc(), Scene::AssignsPastASlot);
 }

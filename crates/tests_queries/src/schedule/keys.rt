@@ -1,13 +1,12 @@
 //! Dags that are worked off by keys, by two workers at a time.
 ghost use Rattle.daggy_schedule.specs.ByKey.{IsUnderWayByKey};
 
+use super::scenes::{Scene, compact, stable};
 use super::support::{Plain, dag_of};
 use crate::support::{holds, lists, made, node};
 use daggy_base::index::NodeIndex;
 use daggy_base::store::Store;
-use daggy_graph::graph::DiGraph;
 use daggy_schedule::ready_by_key::ReadyByKey;
-use daggy_stable::stable_graph::StableDiGraph;
 use std::alloc::{AllocError, Global};
 use std::cmp::Reverse;
 use std::collections::VecDeque;
@@ -97,7 +96,10 @@ fn begins_reversed<S: Store<u32, NodeWeight = u64, EdgeWeight = ()>>(
     lists(rt, begun.as_slice(), wanted);
 }
 
-fn works_off<S: Store<u32, NodeWeight = u64, EdgeWeight = ()>>(rt: &impl Abort, alloc: Global) {
+pub fn works_off_by_keys<S: Store<u32, NodeWeight = u64, EdgeWeight = ()>>(
+    rt: &impl Abort,
+    alloc: Global,
+) {
     let none = dag_of::<S>(rt, alloc, &[], &[]);
     begins(rt, alloc, &none, 2, &[]);
     // Node 4 waits for node 0, twice, and node 1 for node 4. Nodes 2, 3 and 5 have equal keys.
@@ -116,11 +118,11 @@ fn works_off<S: Store<u32, NodeWeight = u64, EdgeWeight = ()>>(rt: &impl Abort, 
 }
 
 // The same, and past a vacant slot.
-fn works_off_past_a_slot<S: Store<u32, NodeWeight = u64, EdgeWeight = ()>>(
+pub fn works_off_by_keys_past_a_slot<S: Store<u32, NodeWeight = u64, EdgeWeight = ()>>(
     rt: &impl Abort,
     alloc: Global,
 ) {
-    works_off::<S>(rt, alloc);
+    works_off_by_keys::<S>(rt, alloc);
     let edges = [(0, 1), (1, 2)];
     let mut dag = dag_of::<S>(rt, alloc, &[1, 9, 2, 3], &edges);
     holds(rt, dag.remove_node(node(rt, 1)).is_some());
@@ -129,10 +131,10 @@ fn works_off_past_a_slot<S: Store<u32, NodeWeight = u64, EdgeWeight = ()>>(
 
 #[test]
 fn works_off_a_dag_by_keys(rt: HostRuntime) {
-    works_off::<DiGraph<u64, (), u32>>(&rt, rt.alloc());
+    compact(&rt, rt.alloc(), Scene::Keys);
 }
 
 #[test]
 fn works_off_a_stable_dag_by_keys(rt: HostRuntime) {
-    works_off_past_a_slot::<StableDiGraph<u64, (), u32>>(&rt, rt.alloc());
+    stable(&rt, rt.alloc(), Scene::KeysPastASlot);
 }

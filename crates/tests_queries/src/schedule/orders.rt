@@ -1,10 +1,9 @@
 //! Orders by keys that were worked out by hand.
+use super::scenes::{Scene, compact, stable};
 use super::support::{Plain, dag_of};
 use crate::support::{holds, lists, made, node};
 use daggy_base::store::Store;
-use daggy_graph::graph::DiGraph;
 use daggy_schedule::order_by::topological_order_by;
-use daggy_stable::stable_graph::StableDiGraph;
 use std::alloc::Global;
 use std::cmp::Reverse;
 use std::process::Abort;
@@ -45,13 +44,16 @@ fn orders_alike<S: Store<u32, NodeWeight = u64, EdgeWeight = ()>>(rt: &impl Abor
     orders_by_index::<S>(rt, alloc, &[(2, 4), (3, 4), (3, 1), (3, 0)]);
 }
 
-fn orders_all<S: Store<u32, NodeWeight = u64, EdgeWeight = ()>>(rt: &impl Abort, alloc: Global) {
+pub fn orders_all<S: Store<u32, NodeWeight = u64, EdgeWeight = ()>>(
+    rt: &impl Abort,
+    alloc: Global,
+) {
     orders::<S>(rt, alloc);
     orders_alike::<S>(rt, alloc);
 }
 
 // The same, and past a vacant slot.
-fn orders_past_a_slot<S: Store<u32, NodeWeight = u64, EdgeWeight = ()>>(
+pub fn orders_past_a_slot<S: Store<u32, NodeWeight = u64, EdgeWeight = ()>>(
     rt: &impl Abort,
     alloc: Global,
 ) {
@@ -65,10 +67,10 @@ fn orders_past_a_slot<S: Store<u32, NodeWeight = u64, EdgeWeight = ()>>(
 
 #[test]
 fn orders_of_dags(rt: HostRuntime) {
-    orders_all::<DiGraph<u64, (), u32>>(&rt, rt.alloc());
+    compact(&rt, rt.alloc(), Scene::Orders);
 }
 
 #[test]
 fn orders_of_stable_dags(rt: HostRuntime) {
-    orders_past_a_slot::<StableDiGraph<u64, (), u32>>(&rt, rt.alloc());
+    stable(&rt, rt.alloc(), Scene::OrdersPastASlot);
 }

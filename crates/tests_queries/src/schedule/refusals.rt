@@ -1,16 +1,15 @@
 //! Calls while memory is refused once. `rt try --test --fail-alloc N` refuses the Nth allocation: a
 //! call that is refused says so, and succeeds when it is made again.
+use super::scenes::{Scene, compact, stable};
 use super::support::Plain;
 use crate::support::{lists, made, node, same};
 use daggy_base::index::NodeIndex;
 use daggy_base::store::Store;
-use daggy_graph::graph::DiGraph;
 use daggy_schedule::on_workers::schedule_on;
 use daggy_schedule::order_by::topological_order_by;
 use daggy_schedule::ready::Ready;
 use daggy_schedule::ready_by_key::ReadyByKey;
 use daggy_schedule::schedule::{Schedule, ScheduleError};
-use daggy_stable::stable_graph::StableDiGraph;
 use std::alloc::{AllocError, Global};
 use std::num::NonZeroUsize;
 use std::process::Abort;
@@ -98,7 +97,7 @@ fn assign_again<S: Store<u32, NodeWeight = u64, EdgeWeight = ()>>(
     same(rt, plan.makespan, 5);
 }
 
-fn again<S: Store<u32, NodeWeight = u64, EdgeWeight = ()>>(rt: &impl Abort, alloc: Global) {
+pub fn again<S: Store<u32, NodeWeight = u64, EdgeWeight = ()>>(rt: &impl Abort, alloc: Global) {
     let dag = two_nodes::<S>(rt, alloc);
     ready_again(rt, alloc, &dag);
     ready_by_key_again(rt, alloc, &dag);
@@ -109,10 +108,10 @@ fn again<S: Store<u32, NodeWeight = u64, EdgeWeight = ()>>(rt: &impl Abort, allo
 
 #[test]
 fn refused_calls_are_made_again(rt: HostRuntime) {
-    again::<DiGraph<u64, (), u32>>(&rt, rt.alloc());
+    compact(&rt, rt.alloc(), Scene::Refusals);
 }
 
 #[test]
 fn refused_calls_on_a_stable_dag_are_made_again(rt: HostRuntime) {
-    again::<StableDiGraph<u64, (), u32>>(&rt, rt.alloc());
+    stable(&rt, rt.alloc(), Scene::Refusals);
 }

@@ -2,13 +2,12 @@
 ghost use Rattle.std.specs.Prelude.{◌≤◌, length};
 ghost use Rattle.daggy_base.specs.Graph.{node_bound};
 
+use super::scenes::{Scene, compact, stable};
 use super::support::{Plain, dag_of, times};
 use crate::support::{holds, lists, made, node, same};
 use daggy_base::source::EdgeSource;
 use daggy_base::store::Store;
-use daggy_graph::graph::DiGraph;
 use daggy_schedule::schedule::{Schedule, ScheduleError};
-use daggy_stable::stable_graph::StableDiGraph;
 use std::alloc::Global;
 use std::process::Abort;
 
@@ -76,7 +75,7 @@ fn plans_too_much<S: Store<u32, NodeWeight = u64, EdgeWeight = ()>>(
     same(rt, plan.makespan, u64::MAX);
 }
 
-fn plans_all<S: Store<u32, NodeWeight = u64, EdgeWeight = ()>>(rt: &impl Abort, alloc: Global) {
+pub fn plans_all<S: Store<u32, NodeWeight = u64, EdgeWeight = ()>>(rt: &impl Abort, alloc: Global) {
     plans::<S>(rt, alloc);
     plans_by_table::<S>(rt, alloc);
     plans_none::<S>(rt, alloc);
@@ -84,7 +83,7 @@ fn plans_all<S: Store<u32, NodeWeight = u64, EdgeWeight = ()>>(rt: &impl Abort, 
 }
 
 // The same, and past a vacant slot.
-fn plans_past_a_slot<S: Store<u32, NodeWeight = u64, EdgeWeight = ()>>(
+pub fn plans_past_a_slot<S: Store<u32, NodeWeight = u64, EdgeWeight = ()>>(
     rt: &impl Abort,
     alloc: Global,
 ) {
@@ -101,10 +100,10 @@ fn plans_past_a_slot<S: Store<u32, NodeWeight = u64, EdgeWeight = ()>>(
 
 #[test]
 fn schedules_of_dags(rt: HostRuntime) {
-    plans_all::<DiGraph<u64, (), u32>>(&rt, rt.alloc());
+    compact(&rt, rt.alloc(), Scene::Plans);
 }
 
 #[test]
 fn schedules_of_stable_dags(rt: HostRuntime) {
-    plans_past_a_slot::<StableDiGraph<u64, (), u32>>(&rt, rt.alloc());
+    stable(&rt, rt.alloc(), Scene::PlansPastASlot);
 }

@@ -1,13 +1,12 @@
 //! Dags that are worked off by three workers.
 ghost use Rattle.daggy_schedule.specs.Work.{IsUnderWay};
 
+use super::scenes::{Scene, compact, stable};
 use super::support::{Plain, dag_of};
 use crate::support::{holds, lists, made, node};
 use daggy_base::index::NodeIndex;
 use daggy_base::store::Store;
-use daggy_graph::graph::DiGraph;
 use daggy_schedule::ready::Ready;
-use daggy_stable::stable_graph::StableDiGraph;
 use std::alloc::{AllocError, Global};
 use std::collections::VecDeque;
 use std::process::Abort;
@@ -66,7 +65,7 @@ fn work_off<S: Store<u32, NodeWeight = u64, EdgeWeight = ()>>(
     Ok(finished)
 }
 
-fn works_off<S: Store<u32, NodeWeight = u64, EdgeWeight = ()>>(rt: &impl Abort, alloc: Global) {
+pub fn works_off<S: Store<u32, NodeWeight = u64, EdgeWeight = ()>>(rt: &impl Abort, alloc: Global) {
     let none = dag_of::<S>(rt, alloc, &[], &[]);
     lists(rt, made(rt, work_off(alloc, &none)).as_slice(), &[]);
     // Node 2 is released at the second of the two edges that lead to it from node 0.
@@ -87,7 +86,7 @@ fn works_off<S: Store<u32, NodeWeight = u64, EdgeWeight = ()>>(rt: &impl Abort, 
 }
 
 // The same, and past a vacant slot.
-fn works_off_past_a_slot<S: Store<u32, NodeWeight = u64, EdgeWeight = ()>>(
+pub fn works_off_past_a_slot<S: Store<u32, NodeWeight = u64, EdgeWeight = ()>>(
     rt: &impl Abort,
     alloc: Global,
 ) {
@@ -99,10 +98,10 @@ fn works_off_past_a_slot<S: Store<u32, NodeWeight = u64, EdgeWeight = ()>>(
 
 #[test]
 fn works_off_a_dag(rt: HostRuntime) {
-    works_off::<DiGraph<u64, (), u32>>(&rt, rt.alloc());
+    compact(&rt, rt.alloc(), Scene::Workers);
 }
 
 #[test]
 fn works_off_a_stable_dag(rt: HostRuntime) {
-    works_off_past_a_slot::<StableDiGraph<u64, (), u32>>(&rt, rt.alloc());
+    stable(&rt, rt.alloc(), Scene::WorkersPastASlot);
 }

@@ -1,15 +1,10 @@
-//! The assertions, dags of numbers, and walks as numbers.
-//!
-//! Each `assert_eq!` costs a proof, so it is written here once, and tests call it. What is
-//! generic over the store serves both kinds of dag.
-ghost use Rattle.std.specs.Prelude.{◌≡◌, IsTrue, Ok};
-
+//! Dags of numbers, and walks as numbers. What is generic over the store serves both kinds of dag.
+pub use crate::support::{holds, made, node, same};
 use daggy_base::index::{EdgeIndex, NodeIndex};
 use daggy_base::store::Store;
 use daggy_dag::acyclic::Acyclic;
 use daggy_walk::walker::{FiniteWalker, Walker};
 use std::alloc::Global;
-use std::fmt::Debug;
 use std::process::Abort;
 
 /// A dag of either kind whose weights are numbers.
@@ -18,36 +13,8 @@ pub type Plain<S> = Acyclic<u32, u32, u32, S>;
 /// What a walker over such a dag yields.
 pub type Step = (EdgeIndex, NodeIndex);
 
-/// Asserts that what was found is what is wanted.
-pub fn same<T: PartialEq + Debug + Drop>(rt: &impl Abort, found: T, wanted: T) {
-    assert_eq!(rt; found, wanted);
-}
-
-/// Asserts a fact, which calls after it may rest on.
-pub fn holds(rt: &impl Abort, fact: bool)
-    ensures { IsTrue fact }
-{
-    assert!(rt; fact);
-}
-
-/// Asserts that a call succeeded, and returns its value.
-pub fn made<T: Drop, E: Drop>(rt: &impl Abort, answer: Result<T, E>) -> T
-    ensures { answer ≡ Ok result }
-{
-    match answer {
-        Ok(x) => x,
-        Err(_) => panic!(rt; "the call was refused"),
-    }
-}
-
 /// Takes a walker over a dag that is `Copy`, and no other.
 pub fn is_copy<G, W: Walker<G> + Copy>(_dag: &G, _walker: &W) {}
-
-/// The index of a node.
-pub fn node(rt: &impl Abort, x: usize) -> NodeIndex {
-    assert!(rt; x <= NodeIndex::<u32>::end().index());
-    NodeIndex::new(x)
-}
 
 /// The index of an edge.
 pub fn edge(rt: &impl Abort, x: usize) -> EdgeIndex {

@@ -139,13 +139,21 @@ fn read_back_stable(rt: &impl Abort, alloc: Global, dag: &SmallStable) -> SmallS
     made(rt, stable_from_json(alloc, &value, weight, weight))
 }
 
+fn compact_is_read_back(rt: &impl Abort, alloc: Global, state: &mut u64) {
+    let dag: Small = random_dag(rt, alloc, state);
+    same_dag(rt, &read_back(rt, alloc, &dag), &dag);
+}
+
+fn stable_is_read_back(rt: &impl Abort, alloc: Global, state: &mut u64) {
+    let dag: SmallStable = random_dag(rt, alloc, state);
+    same_dag(rt, &read_back_stable(rt, alloc, &dag), &dag);
+}
+
 #[test]
 fn random_dags_are_read_back(rt: HostRuntime) {
     let mut state = 1;
     for _ in 0..1000 {
-        let dag = random_dag(&rt, rt.alloc(), &mut state);
-        same_dag(&rt, &read_back(&rt, rt.alloc(), &dag), &dag);
-        let dag = random_dag(&rt, rt.alloc(), &mut state);
-        same_dag(&rt, &read_back_stable(&rt, rt.alloc(), &dag), &dag);
+        compact_is_read_back(&rt, rt.alloc(), &mut state);
+        stable_is_read_back(&rt, rt.alloc(), &mut state);
     }
 }

@@ -1,34 +1,28 @@
 //! Documents that are read.
-use crate::documents::support::{
-    REORDERED, Small, SmallStable, VACANT, edge, holds, is_written, is_written_stable, made, node,
-    value_of, weight,
+use super::scenes::{Scene, both, compact, stable};
+use super::support::{
+    Kind, Plain, REORDERED, VACANT, edge, holds, is_written, made, node, value_of,
 };
-use daggy_json::documents::{dag_from_json, stable_from_json};
+use daggy_base::index::NodeIndex;
 use daggy_json::error::ReadError;
 use daggy_walk::walker::Walker;
-use serde_json::Value;
-use std::alloc::{AllocError, Global};
+use std::alloc::Global;
 use std::process::Abort;
 
-fn read(rt: &impl Abort, alloc: Global, text: &str) -> Result<Small, ReadError> {
+fn read<S: Kind>(rt: &impl Abort, alloc: Global, text: &str) -> Result<Plain<S>, ReadError> {
     let value = value_of(rt, alloc, text);
-    dag_from_json(alloc, &value, weight, weight)
+    S::read(alloc, &value)
 }
 
-fn read_stable(rt: &impl Abort, alloc: Global, text: &str) -> Result<SmallStable, ReadError> {
-    let value = value_of(rt, alloc, text);
-    stable_from_json(alloc, &value, weight, weight)
+/// Asserts that a document is read.
+pub fn reads<S: Kind>(rt: &impl Abort, alloc: Global, text: &str) {
+    let _dag = made(rt, read::<S>(rt, alloc, text));
 }
 
-// Asserts that a document reads as a dag that is written as the other one.
-fn reads_as(rt: &impl Abort, alloc: Global, text: &str, wanted: &str) {
-    let dag = made(rt, read(rt, alloc, text));
+/// Asserts that a document reads as a dag that is written as the other one.
+pub fn reads_as<S: Kind>(rt: &impl Abort, alloc: Global, text: &str, wanted: &str) {
+    let dag = made(rt, read::<S>(rt, alloc, text));
     is_written(rt, alloc, &dag, wanted);
-}
-
-fn reads_as_stable(rt: &impl Abort, alloc: Global, text: &str, wanted: &str) {
-    let dag = made(rt, read_stable(rt, alloc, text));
-    is_written_stable(rt, alloc, &dag, wanted);
 }
 
 const WITHOUT_ORDERS: &str =
@@ -41,77 +35,81 @@ const DESCENDING: &str =
 
 #[test]
 fn lists_are_read_in_their_order(rt: HostRuntime) {
-    reads_as(&rt, rt.alloc(), REORDERED, REORDERED);
-    reads_as_stable(&rt, rt.alloc(), REORDERED, REORDERED);
+    both(&rt, rt.alloc(), Scene::ReadAs(REORDERED, REORDERED));
 }
 
 #[test]
 fn without_orders_lists_descend(rt: HostRuntime) {
-    reads_as(&rt, rt.alloc(), WITHOUT_ORDERS, DESCENDING);
-    reads_as_stable(&rt, rt.alloc(), WITHOUT_ORDERS, DESCENDING);
+    both(&rt, rt.alloc(), Scene::ReadAs(WITHOUT_ORDERS, DESCENDING));
 }
 
 const TRAILING: &str = "{\"nodes\":[1,2],\"node_holes\":[0,2],\"edge_property\":\"directed\",\
      \"edges\":[null,[1,3,7]]}";
 
+/// Reads a document of two nodes and an edge between vacant slots.
+pub fn reads_vacant_slots<S: Kind>(rt: &impl Abort, alloc: Global, text: &str) {
+    let dag = made(rt, read::<S>(rt, alloc, text));
+    let (a, b) = (node(rt, 1), node(rt, 3));
+    holds(rt, (dag.node_count(), dag.edge_count()) == (2, 1));
+    holds(rt, dag.node_weight(a) == Some(&1));
+    holds(rt, dag.node_weight(b) == Some(&2));
+    let only = edge(rt, 1);
+    holds(rt, dag.edge_weight(only) == Some(&7));
+    let mut children = dag.children(a);
+    holds(rt, children.walk_next(&dag) == Some((only, b)));
+    holds(rt, children.walk_next(&dag).is_none());
+}
+
 #[test]
 fn vacant_slots_are_read(rt: HostRuntime) {
-    reads_as_stable(&rt, rt.alloc(), VACANT, VACANT);
-    let dag = made(&rt, read_stable(&rt, rt.alloc(), TRAILING));
-    let (a, b) = (node(&rt, 1), node(&rt, 3));
-    holds(&rt, (dag.node_count(), dag.edge_count()) == (2, 1));
-    holds(&rt, dag.node_weight(a) == Some(&1));
-    holds(&rt, dag.node_weight(b) == Some(&2));
-    let only = edge(&rt, 1);
-    holds(&rt, dag.edge_weight(only) == Some(&7));
-    let mut children = dag.children(a);
-    holds(&rt, children.walk_next(&dag) == Some((only, b)));
-    holds(&rt, children.walk_next(&dag).is_none());
+    stable(&rt, rt.alloc(), Scene::ReadAs(VACANT, VACANT));
+    stable(&rt, rt.alloc(), Scene::VacantRead(TRAILING));
 }
 
-// The vacant slot with the greatest index is taken first.
+// Adds a node, and asserts its index.
+fn takes_node<S: Kind>(rt: &impl Abort, dag: &mut Plain<S>, wanted: usize) {
+    holds(rt, dag.can_add_node());
+    let n = made(rt, dag.add_node(9));
+    holds(rt, n.index() == wanted);
+}
+
+// Adds an edge, and asserts its index.
+fn takes_edge<S: Kind>(
+    rt: &impl Abort,
+    dag: &mut Plain<S>,
+    ends: (NodeIndex<u8>, NodeIndex<u8>),
+    wanted: usize,
+) {
+    let (a, b) = ends;
+    holds(rt, dag.contains_node(a) && dag.contains_node(b));
+    holds(rt, dag.can_add_edge());
+    let e = made(rt, dag.add_edge(a, b, 5));
+    holds(rt, e.index() == wanted);
+}
+
+/// Reads the same document and adds nodes and edges. The vacant slot with the greatest index is taken
+/// first.
+pub fn takes_vacant_slots<S: Kind>(rt: &impl Abort, alloc: Global, text: &str) {
+    let mut dag = made(rt, read::<S>(rt, alloc, text));
+    for wanted in [2, 0, 4] {
+        takes_node(rt, &mut dag, wanted);
+    }
+    let ends = (node(rt, 1), node(rt, 3));
+    for wanted in [0, 2] {
+        takes_edge(rt, &mut dag, ends, wanted);
+    }
+}
+
 #[test]
 fn vacant_slots_that_were_read_are_taken(rt: HostRuntime) {
-    let mut dag = made(&rt, read_stable(&rt, rt.alloc(), TRAILING));
-    for wanted in [2, 0, 4] {
-        holds(&rt, dag.can_add_node());
-        let n = made(&rt, dag.add_node(9));
-        holds(&rt, n.index() == wanted);
-    }
-    let (a, b) = (node(&rt, 1), node(&rt, 3));
-    for wanted in [0, 2] {
-        holds(&rt, dag.contains_node(a) && dag.contains_node(b));
-        holds(&rt, dag.can_add_edge());
-        let e = made(&rt, dag.add_edge(a, b, 5));
-        holds(&rt, e.index() == wanted);
-    }
+    stable(&rt, rt.alloc(), Scene::VacantTaken(TRAILING));
 }
 
-fn is_fault(found: &ReadError, wanted: &ReadError) -> bool {
-    matches!(
-        (found, wanted),
-        (ReadError::Shape, ReadError::Shape)
-            | (ReadError::Property, ReadError::Property)
-            | (ReadError::Holes, ReadError::Holes)
-            | (ReadError::Full, ReadError::Full)
-            | (ReadError::Weight, ReadError::Weight)
-            | (ReadError::BadEndpoint, ReadError::BadEndpoint)
-            | (ReadError::Orders, ReadError::Orders)
-            | (ReadError::Cycle, ReadError::Cycle)
-    )
-}
-
-fn refuses(rt: &impl Abort, alloc: Global, text: &str, wanted: &ReadError) {
-    match read(rt, alloc, text) {
+/// Asserts that a document has this fault.
+pub fn refuses<S: Kind>(rt: &impl Abort, alloc: Global, text: &str, wanted: ReadError) {
+    match read::<S>(rt, alloc, text) {
         Ok(_) => holds(rt, false),
-        Err(found) => holds(rt, is_fault(&found, wanted)),
-    }
-}
-
-fn refuses_stable(rt: &impl Abort, alloc: Global, text: &str, wanted: &ReadError) {
-    match read_stable(rt, alloc, text) {
-        Ok(_) => holds(rt, false),
-        Err(found) => holds(rt, is_fault(&found, wanted)),
+        Err(found) => holds(rt, found == wanted),
     }
 }
 
@@ -230,8 +228,7 @@ const FAULTS: [(&str, ReadError); 29] = [
 #[test]
 fn the_first_fault_of_a_document_is_told(rt: HostRuntime) {
     for (text, wanted) in FAULTS {
-        refuses(&rt, rt.alloc(), text, &wanted);
-        refuses_stable(&rt, rt.alloc(), text, &wanted);
+        both(&rt, rt.alloc(), Scene::Refused(text, wanted));
     }
 }
 
@@ -240,8 +237,9 @@ const HOLE_AND_NO_END: &str =
 
 #[test]
 fn a_vacant_slot_is_no_end(rt: HostRuntime) {
-    refuses(&rt, rt.alloc(), HOLE_AND_NO_END, &ReadError::Holes);
-    refuses_stable(&rt, rt.alloc(), HOLE_AND_NO_END, &ReadError::BadEndpoint);
+    let (text, end) = (HOLE_AND_NO_END, ReadError::BadEndpoint);
+    compact(&rt, rt.alloc(), Scene::Refused(text, ReadError::Holes));
+    stable(&rt, rt.alloc(), Scene::Refused(text, end));
 }
 
 /// Documents with a vacant slot, their fault in the compact kind, and what they are written as in
@@ -264,8 +262,8 @@ const ONE_VACANT: [(&str, ReadError, &str); 2] = [
 #[test]
 fn a_compact_dag_has_no_vacant_slot(rt: HostRuntime) {
     for (text, fault, wanted) in ONE_VACANT {
-        refuses(&rt, rt.alloc(), text, &fault);
-        reads_as_stable(&rt, rt.alloc(), text, wanted);
+        compact(&rt, rt.alloc(), Scene::Refused(text, fault));
+        stable(&rt, rt.alloc(), Scene::ReadAs(text, wanted));
     }
 }
 
@@ -276,7 +274,8 @@ fn other_orders_are_no_rearrangement(rt: HostRuntime) {
     for list in ["[0]", "[0,0]", "[0,1,1]"] {
         let text = format!(in rt.alloc(); "{front}{list},[]],[[],[0]],[[],[1]]]}}");
         let text = made(&rt, text);
-        refuses(&rt, rt.alloc(), text.as_str(), &ReadError::Orders);
+        let scene = Scene::Refused(text.as_str(), ReadError::Orders);
+        compact(&rt, rt.alloc(), scene);
     }
 }
 
@@ -292,6 +291,15 @@ fn repeated(rt: &impl Abort, alloc: Global, item: &str, count: usize) -> String 
     list
 }
 
+// A document is read, or has no index left.
+fn fits_or_not(text: &str, fits: bool) -> Scene<'_> {
+    if fits {
+        Scene::Read(text)
+    } else {
+        Scene::Refused(text, ReadError::Full)
+    }
+}
+
 #[test]
 fn there_is_an_index_for_each_slot(rt: HostRuntime) {
     for (count, fits) in [(255, true), (256, false)] {
@@ -302,13 +310,7 @@ fn there_is_an_index_for_each_slot(rt: HostRuntime) {
                 "{{\"nodes\":[{nodes}],\"edge_property\":\"directed\",\"edges\":[{edges}]}}"
             );
             let text = made(&rt, text);
-            if fits {
-                let _dag = made(&rt, read(&rt, rt.alloc(), text.as_str()));
-                let _dag = made(&rt, read_stable(&rt, rt.alloc(), text.as_str()));
-            } else {
-                refuses(&rt, rt.alloc(), text.as_str(), &ReadError::Full);
-                refuses_stable(&rt, rt.alloc(), text.as_str(), &ReadError::Full);
-            }
+            both(&rt, rt.alloc(), fits_or_not(text.as_str(), fits));
         }
     }
 }
@@ -323,23 +325,20 @@ fn a_vacant_slot_takes_an_index(rt: HostRuntime) {
              \"edges\":[{edges}]}}"
         );
         let text = made(&rt, text);
-        if fits {
-            let _dag = made(&rt, read_stable(&rt, rt.alloc(), text.as_str()));
-        } else {
-            refuses_stable(&rt, rt.alloc(), text.as_str(), &ReadError::Full);
-        }
+        stable(&rt, rt.alloc(), fits_or_not(text.as_str(), fits));
     }
 }
 
-fn starve(_value: &Value) -> Result<Option<u64>, AllocError> {
-    Err(AllocError)
+/// Asserts that a document is not read if there is no memory for a weight.
+pub fn starves<S: Kind>(rt: &impl Abort, alloc: Global, text: &str) {
+    let value = value_of(rt, alloc, text);
+    for of_nodes in [false, true] {
+        let answer = S::read_starving(alloc, &value, of_nodes);
+        holds(rt, matches!(&answer, Err(ReadError::Memory)));
+    }
 }
 
 #[test]
 fn want_of_memory_for_a_weight_is_the_answer(rt: HostRuntime) {
-    let value = value_of(&rt, rt.alloc(), REORDERED);
-    let answer: Result<Small, ReadError> = dag_from_json(rt.alloc(), &value, weight, starve);
-    holds(&rt, matches!(&answer, Err(ReadError::Memory)));
-    let answer: Result<Small, ReadError> = dag_from_json(rt.alloc(), &value, starve, weight);
-    holds(&rt, matches!(&answer, Err(ReadError::Memory)));
+    compact(&rt, rt.alloc(), Scene::NotRead(REORDERED));
 }

@@ -1,9 +1,12 @@
 //! Documents that are written to a writer.
-use crate::documents::support::{
-    REORDERED, Small, SmallStable, VACANT, dag_of, edge, holds, made, node, number, value_of,
+use super::scenes::{Scene, both, compact, stable};
+use super::support::{
+    EMPTY, FIRST_EDGE_GONE, Kind, NODE_GONE, NOTHING, PARALLEL, Plain, REORDERED, Recipe, Small,
+    VACANT, dag_of, holds, made, node, number,
 };
 use daggy_base::store::Store;
-use daggy_dag::acyclic::{Acyclic, Dag};
+use daggy_dag::acyclic::Acyclic;
+use daggy_graph::graph::DiGraph;
 use daggy_json::documents::{dag_to_json, write_json};
 use daggy_json::error::StreamError;
 use serde_json::Value;
@@ -11,46 +14,33 @@ use std::alloc::{AllocError, Global};
 use std::io::{self, ErrorKind, Write};
 use std::process::Abort;
 
-// Asserts the text that is written of a dag.
-fn is_streamed<S: Store<u8, NodeWeight = u64, EdgeWeight = u64>>(
-    rt: &impl Abort,
-    alloc: Global,
-    dag: &Acyclic<u64, u64, u8, S>,
-    wanted: &str,
-) {
+/// Asserts the text that is written of a dag that is made by a recipe.
+pub fn streams<S: Kind>(rt: &impl Abort, alloc: Global, recipe: Recipe<'_>, wanted: &str) {
+    let dag: Plain<S> = dag_of(rt, alloc, recipe);
     let mut out = Vec::new(alloc);
-    made(rt, write_json(dag, &mut out, number, number));
+    made(rt, write_json(&dag, &mut out, number, number));
     holds(rt, out.as_slice() == wanted.as_bytes());
 }
 
-const EMPTY: &str =
-    "{\"edge_property\":\"directed\",\"edges\":[],\"node_holes\":[],\"nodes\":[],\"orders\":[]}";
-
 #[test]
 fn nothing_is_streamed_as_empty_lists(rt: HostRuntime) {
-    is_streamed(&rt, rt.alloc(), &Small::new(rt.alloc()), EMPTY);
-    is_streamed(&rt, rt.alloc(), &SmallStable::new(rt.alloc()), EMPTY);
+    both(&rt, rt.alloc(), Scene::Streamed(EMPTY, NOTHING));
 }
 
-const THREE: [(usize, usize, u64); 3] = [(0, 1, 4), (0, 2, 5), (0, 1, 6)];
-
-const PARALLEL: &str =
+const LISTS: &str =
     "{\"edge_property\":\"directed\",\"edges\":[[0,1,4],[0,2,5],[0,1,6]],\"node_holes\":[],\
      \"nodes\":[1,2,3],\"orders\":[[[2,1,0],[]],[[],[2,0]],[[],[1]]]}";
 
 #[test]
 fn lists_are_streamed_in_their_order(rt: HostRuntime) {
-    let dag: Small = dag_of(&rt, rt.alloc(), &[1, 2, 3], &THREE);
-    is_streamed(&rt, rt.alloc(), &dag, PARALLEL);
-    is_streamed(&rt, rt.alloc(), &reordered(&rt, rt.alloc()), REORDERED);
+    compact(&rt, rt.alloc(), Scene::Streamed(PARALLEL, LISTS));
+    let scene = Scene::Streamed(FIRST_EDGE_GONE, REORDERED);
+    compact(&rt, rt.alloc(), scene);
 }
 
 #[test]
 fn vacant_slots_are_streamed(rt: HostRuntime) {
-    let edges = [(0, 1, 4), (0, 2, 5)];
-    let mut dag: SmallStable = dag_of(&rt, rt.alloc(), &[10, 20, 30], &edges);
-    let _weight = dag.remove_node(node(&rt, 1));
-    is_streamed(&rt, rt.alloc(), &dag, VACANT);
+    stable(&rt, rt.alloc(), Scene::Streamed(NODE_GONE, VACANT));
 }
 
 // A text that is JSON, as its value.
@@ -79,8 +69,11 @@ const WRITTEN: &str = "{\"edge_property\":\"directed\",\"edges\":[[0,1,{\"a\":1,
      18446744073709551615,\"straße\"],\
      \"orders\":[[[0],[]],[[],[0]],[[],[]],[[],[]],[[],[]],[[],[]],[[],[]],[[],[]]]}";
 
-fn dag_of_texts(rt: &impl Abort, alloc: Global) -> Dag<&'static str, &'static str, u8> {
-    let mut dag = Dag::new(alloc);
+fn dag_of_texts<S: Store<u8, NodeWeight = &'static str, EdgeWeight = &'static str>>(
+    rt: &impl Abort,
+    alloc: Global,
+) -> Acyclic<&'static str, &'static str, u8, S> {
+    let mut dag = Acyclic::new(alloc);
     for weight in WEIGHTS {
         holds(rt, dag.can_add_node());
         let _n = made(rt, dag.add_node(weight));
@@ -92,16 +85,22 @@ fn dag_of_texts(rt: &impl Abort, alloc: Global) -> Dag<&'static str, &'static st
     dag
 }
 
-#[test]
-fn weights_are_streamed_as_their_values(rt: HostRuntime) {
-    let alloc = rt.alloc();
-    let dag = dag_of_texts(&rt, alloc);
+fn streams_texts<S: Store<u8, NodeWeight = &'static str, EdgeWeight = &'static str>>(
+    rt: &impl Abort,
+    alloc: Global,
+) {
+    let dag = dag_of_texts::<S>(rt, alloc);
     let mut out = Vec::new(alloc);
     made(
-        &rt,
+        rt,
         write_json(&dag, &mut out, |n| parsed(n, alloc), |e| parsed(e, alloc)),
     );
-    holds(&rt, out.as_slice() == WRITTEN.as_bytes());
+    holds(rt, out.as_slice() == WRITTEN.as_bytes());
+}
+
+#[test]
+fn weights_are_streamed_as_their_values(rt: HostRuntime) {
+    streams_texts::<DiGraph<&'static str, &'static str, u8>>(&rt, rt.alloc());
 }
 
 // A writer that takes a few bytes at a time, and fails after some calls.
@@ -137,14 +136,13 @@ fn fault_of(rt: &impl Abort, answer: Result<(), StreamError>) -> Option<ErrorKin
     }
 }
 
-fn reordered(rt: &impl Abort, alloc: Global) -> Small {
-    let mut dag: Small = dag_of(rt, alloc, &[1, 2, 3], &THREE);
-    let _weight = dag.remove_edge(edge(rt, 0));
-    dag
-}
-
 // Writes to a writer that takes 7 bytes a call and fails after `calls` calls, and asserts what it took.
-fn fault_after(rt: &impl Abort, alloc: Global, dag: &Small, calls: usize) -> Option<ErrorKind> {
+fn fault_after<S: Kind>(
+    rt: &impl Abort,
+    alloc: Global,
+    dag: &Plain<S>,
+    calls: usize,
+) -> Option<ErrorKind> {
     let mut out = Failing {
         taken: Vec::new(alloc),
         step: 7,
@@ -156,28 +154,38 @@ fn fault_after(rt: &impl Abort, alloc: Global, dag: &Small, calls: usize) -> Opt
     fault
 }
 
-#[test]
-fn a_fault_at_any_write_is_the_answer(rt: HostRuntime) {
-    let dag = reordered(&rt, rt.alloc());
+/// Writes to a writer that fails, at each of its calls in turn.
+pub fn fails<S: Kind>(rt: &impl Abort, alloc: Global) {
+    let dag: Plain<S> = dag_of(rt, alloc, FIRST_EDGE_GONE);
     let enough = REORDERED.len().div_ceil(7);
     for calls in 0..enough {
-        let fault = fault_after(&rt, rt.alloc(), &dag, calls);
-        holds(&rt, fault == Some(ErrorKind::BrokenPipe));
+        let fault = fault_after(rt, alloc, &dag, calls);
+        holds(rt, fault == Some(ErrorKind::BrokenPipe));
     }
-    holds(&rt, fault_after(&rt, rt.alloc(), &dag, enough).is_none());
+    holds(rt, fault_after(rt, alloc, &dag, enough).is_none());
+}
+
+#[test]
+fn a_fault_at_any_write_is_the_answer(rt: HostRuntime) {
+    compact(&rt, rt.alloc(), Scene::Failing);
+}
+
+/// Writes to a writer that takes nothing.
+pub fn takes_nothing<S: Kind>(rt: &impl Abort, alloc: Global) {
+    let dag: Plain<S> = dag_of(rt, alloc, FIRST_EDGE_GONE);
+    let mut out = Failing {
+        taken: Vec::new(alloc),
+        step: 0,
+        calls: 100,
+    };
+    let fault = fault_of(rt, write_json(&dag, &mut out, number, number));
+    holds(rt, fault == Some(ErrorKind::WriteZero));
+    holds(rt, out.taken.is_empty() && out.calls == 99);
 }
 
 #[test]
 fn a_writer_that_takes_nothing_is_a_fault_of_a_document(rt: HostRuntime) {
-    let dag = reordered(&rt, rt.alloc());
-    let mut out = Failing {
-        taken: Vec::new(rt.alloc()),
-        step: 0,
-        calls: 100,
-    };
-    let fault = fault_of(&rt, write_json(&dag, &mut out, number, number));
-    holds(&rt, fault == Some(ErrorKind::WriteZero));
-    holds(&rt, out.taken.is_empty() && out.calls == 99);
+    compact(&rt, rt.alloc(), Scene::TakingNothing);
 }
 
 // A writer that is interrupted before each byte.
@@ -205,28 +213,38 @@ impl Write for Interrupted {
     }
 }
 
-#[test]
-fn an_interrupted_write_is_tried_again(rt: HostRuntime) {
-    let dag = reordered(&rt, rt.alloc());
+/// Writes to a writer that is interrupted before each byte.
+pub fn goes_on<S: Kind>(rt: &impl Abort, alloc: Global) {
+    let dag: Plain<S> = dag_of(rt, alloc, FIRST_EDGE_GONE);
     let mut out = Interrupted {
-        taken: Vec::new(rt.alloc()),
+        taken: Vec::new(alloc),
         goes_on: false,
     };
-    made(&rt, write_json(&dag, &mut out, number, number));
-    holds(&rt, out.taken.as_slice() == REORDERED.as_bytes());
+    made(rt, write_json(&dag, &mut out, number, number));
+    holds(rt, out.taken.as_slice() == REORDERED.as_bytes());
+}
+
+#[test]
+fn an_interrupted_write_is_tried_again(rt: HostRuntime) {
+    compact(&rt, rt.alloc(), Scene::Interrupted);
 }
 
 fn refuse(_weight: &u64) -> Result<Value, AllocError> {
     Err(AllocError)
 }
 
+/// Writes with a function that fails.
+pub fn ends<S: Kind>(rt: &impl Abort, alloc: Global) {
+    let dag: Plain<S> = dag_of(rt, alloc, FIRST_EDGE_GONE);
+    let mut out = Vec::new(alloc);
+    let answer = write_json(&dag, &mut out, refuse, number);
+    holds(rt, matches!(answer, Err(StreamError::Memory)));
+    holds(rt, out.is_empty());
+}
+
 #[test]
 fn a_failing_function_ends_the_text(rt: HostRuntime) {
-    let dag = reordered(&rt, rt.alloc());
-    let mut out = Vec::new(rt.alloc());
-    let answer = write_json(&dag, &mut out, refuse, number);
-    holds(&rt, matches!(answer, Err(StreamError::Memory)));
-    holds(&rt, out.is_empty());
+    compact(&rt, rt.alloc(), Scene::NotStreamed);
 }
 
 // A text that fills more than a block, with an escape.
@@ -238,31 +256,34 @@ fn long_text(weight: &u64, alloc: Global) -> Result<Value, AllocError> {
     Ok(Value::String(text))
 }
 
-#[test]
-fn long_texts_are_streamed_as_they_are_made(rt: HostRuntime) {
-    let alloc = rt.alloc();
-    let dag: Small = dag_of(&rt, alloc, &[450, 0, 1200, 3], &THREE);
+// Asserts that long texts are streamed as they stand in the document of the dag.
+fn streams_long_texts(rt: &impl Abort, alloc: Global, dag: &Small) {
     let document = made(
-        &rt,
-        dag_to_json(
-            alloc,
-            &dag,
-            |n| long_text(n, alloc),
-            |e| long_text(e, alloc),
-        ),
+        rt,
+        dag_to_json(alloc, dag, |n| long_text(n, alloc), |e| long_text(e, alloc)),
     );
-    let wanted = made(&rt, document.to_vec(alloc));
+    let wanted = made(rt, document.to_vec(alloc));
     let mut out = Vec::new(alloc);
     made(
-        &rt,
+        rt,
         write_json(
-            &dag,
+            dag,
             &mut out,
             |n| long_text(n, alloc),
             |e| long_text(e, alloc),
         ),
     );
-    holds(&rt, out.as_slice() == wanted.as_slice());
+    holds(rt, out.as_slice() == wanted.as_slice());
+}
+
+#[test]
+fn long_texts_are_streamed_as_they_are_made(rt: HostRuntime) {
+    let recipe = Recipe {
+        nodes: &[450, 0, 1200, 3],
+        ..PARALLEL
+    };
+    let dag: Small = dag_of(&rt, rt.alloc(), recipe);
+    streams_long_texts(&rt, rt.alloc(), &dag);
 }
 
 #[test]

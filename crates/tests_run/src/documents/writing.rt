@@ -1,37 +1,40 @@
 //! Documents that are written, by their texts.
-use crate::documents::support::{
-    REORDERED, Small, SmallStable, VACANT, dag_of, edge, holds, is_written, is_written_stable,
-    node, number,
+use super::scenes::{Scene, both, compact, stable};
+use super::support::{
+    EMPTY, FIRST_EDGE_GONE, Kind, NODE_GONE, NODES_GONE, NOTHING, ONE_NODE, Plain, REORDERED,
+    Recipe, VACANT, dag_of, holds, is_written,
 };
-use daggy_json::documents::dag_to_json;
 use daggy_json::error::{ReadError, WriteError};
-use serde_json::Value;
-use std::alloc::AllocError;
+use std::alloc::{AllocError, Global};
+use std::process::Abort;
 
-const EMPTY: &str =
-    "{\"edge_property\":\"directed\",\"edges\":[],\"node_holes\":[],\"nodes\":[],\"orders\":[]}";
+/// Asserts the document of a dag that is made by a recipe.
+pub fn writes<S: Kind>(rt: &impl Abort, alloc: Global, recipe: Recipe<'_>, wanted: &str) {
+    let dag: Plain<S> = dag_of(rt, alloc, recipe);
+    is_written(rt, alloc, &dag, wanted);
+}
+
+/// Asserts that a dag has no document if there is no memory for a weight.
+pub fn writes_nothing<S: Kind>(rt: &impl Abort, alloc: Global) {
+    let dag: Plain<S> = dag_of(rt, alloc, ONE_NODE);
+    let answer = S::refused_document(alloc, &dag);
+    holds(rt, matches!(&answer, Err(WriteError::Memory)));
+}
 
 #[test]
 fn nothing_is_written_as_empty_lists(rt: HostRuntime) {
-    is_written(&rt, rt.alloc(), &Small::new(rt.alloc()), EMPTY);
-    is_written_stable(&rt, rt.alloc(), &SmallStable::new(rt.alloc()), EMPTY);
+    both(&rt, rt.alloc(), Scene::Written(EMPTY, NOTHING));
 }
-
-const THREE: [(usize, usize, u64); 3] = [(0, 1, 4), (0, 2, 5), (0, 1, 6)];
 
 #[test]
 fn the_lists_are_written_in_their_order(rt: HostRuntime) {
-    let mut dag: Small = dag_of(&rt, rt.alloc(), &[1, 2, 3], &THREE);
-    let _weight = dag.remove_edge(edge(&rt, 0));
-    is_written(&rt, rt.alloc(), &dag, REORDERED);
+    let scene = Scene::Written(FIRST_EDGE_GONE, REORDERED);
+    compact(&rt, rt.alloc(), scene);
 }
 
 #[test]
 fn vacant_slots_below_the_bound_are_named(rt: HostRuntime) {
-    let edges = [(0, 1, 4), (0, 2, 5)];
-    let mut dag: SmallStable = dag_of(&rt, rt.alloc(), &[10, 20, 30], &edges);
-    let _weight = dag.remove_node(node(&rt, 1));
-    is_written_stable(&rt, rt.alloc(), &dag, VACANT);
+    stable(&rt, rt.alloc(), Scene::Written(NODE_GONE, VACANT));
 }
 
 const CUT: &str = "{\"edge_property\":\"directed\",\"edges\":[],\"node_holes\":[],\"nodes\":[10],\
@@ -39,22 +42,12 @@ const CUT: &str = "{\"edge_property\":\"directed\",\"edges\":[],\"node_holes\":[
 
 #[test]
 fn vacant_slots_past_the_bound_are_left_out(rt: HostRuntime) {
-    let edges = [(0, 1, 4), (0, 2, 5)];
-    let mut dag: SmallStable = dag_of(&rt, rt.alloc(), &[10, 20, 30], &edges);
-    let _weight = dag.remove_node(node(&rt, 1));
-    let _weight = dag.remove_node(node(&rt, 2));
-    is_written_stable(&rt, rt.alloc(), &dag, CUT);
-}
-
-fn refuse(_weight: &u64) -> Result<Value, AllocError> {
-    Err(AllocError)
+    stable(&rt, rt.alloc(), Scene::Written(NODES_GONE, CUT));
 }
 
 #[test]
 fn want_of_memory_for_a_weight_is_the_answer(rt: HostRuntime) {
-    let dag: Small = dag_of(&rt, rt.alloc(), &[1], &[]);
-    let answer = dag_to_json(rt.alloc(), &dag, refuse, number);
-    holds(&rt, matches!(&answer, Err(WriteError::Memory)));
+    compact(&rt, rt.alloc(), Scene::NotWritten);
 }
 
 #[test]
