@@ -1,6 +1,7 @@
 //! A first program that uses `daggy`: what has to be done in a garden, in an order in which it can
 //! be done. `.ci/use` copies it.
 #![tactic(auto)]
+
 ghost use Rattle.std.specs.Prelude.{◌≡◌};
 ghost use Rattle.daggy.specs.Graph.{empty};
 
