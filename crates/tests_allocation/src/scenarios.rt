@@ -107,15 +107,25 @@ fn refill<S: Kind>(rt: &impl Abort, dag: &mut Plain<S>, update: bool) {
 // Nodes, each with an edge from the root, which is made by an update if that is asked for.
 fn nodes_and_edges<S: Kind>(rt: &impl Abort, alloc: Global, update: bool, refused: &mut bool) {
     let mut dag: Plain<S> = begun(rt, alloc, refused);
+    add_nodes_and_edges(rt, &mut dag, update, refused);
+}
+
+// What owns a dag has no branches here: a dag is dropped in each, which lengthens the proof.
+fn add_nodes_and_edges<S: Kind>(
+    rt: &impl Abort,
+    dag: &mut Plain<S>,
+    update: bool,
+    refused: &mut bool,
+) {
     if S::GAP {
-        refill(rt, &mut dag, update);
+        refill(rt, dag, update);
     }
     for _ in 0..20 {
         let edges = dag.edge_count();
-        let n = add_node_again(rt, &mut dag, refused);
-        join_again(rt, &mut dag, (0, n.index()), update, refused);
+        let n = add_node_again(rt, dag, refused);
+        join_again(rt, dag, (0, n.index()), update, refused);
         holds(rt, edges < 64);
-        is_fan(rt, &dag, edges + 1, S::GAP);
+        is_fan(rt, dag, edges + 1, S::GAP);
     }
 }
 
@@ -130,29 +140,37 @@ fn parallel_edges<S: Kind>(rt: &impl Abort, alloc: Global, refused: &mut bool) {
 // Children of the root.
 fn children<S: Kind>(rt: &impl Abort, alloc: Global, refused: &mut bool) {
     let mut dag: Plain<S> = begun(rt, alloc, refused);
+    add_children(rt, &mut dag, refused);
+}
+
+fn add_children<S: Kind>(rt: &impl Abort, dag: &mut Plain<S>, refused: &mut bool) {
     for _ in 0..20 {
         let edges = dag.edge_count();
         let root = NodeIndex::new(0);
-        add_neighbor_again(rt, &mut dag, root, Direction::Outgoing, refused);
+        add_neighbor_again(rt, dag, root, Direction::Outgoing, refused);
         holds(rt, edges < 64);
-        is_fan(rt, &dag, edges + 1, S::GAP);
+        is_fan(rt, dag, edges + 1, S::GAP);
     }
 }
 
 // Parents of the node that was added last, and of the root.
 fn parents<S: Kind>(rt: &impl Abort, alloc: Global, refused: &mut bool) {
     let mut dag: Plain<S> = begun(rt, alloc, refused);
+    add_parents(rt, &mut dag, refused);
+}
+
+fn add_parents<S: Kind>(rt: &impl Abort, dag: &mut Plain<S>, refused: &mut bool) {
     let root = NodeIndex::new(0);
     if S::GAP {
-        add_neighbor_again(rt, &mut dag, root, Direction::Outgoing, refused);
+        add_neighbor_again(rt, dag, root, Direction::Outgoing, refused);
     }
     let mut last = root;
     for _ in 0..10 {
         let edges = dag.edge_count();
-        last = add_neighbor_again(rt, &mut dag, last, Direction::Incoming, refused);
-        add_neighbor_again(rt, &mut dag, root, Direction::Incoming, refused);
+        last = add_neighbor_again(rt, dag, last, Direction::Incoming, refused);
+        add_neighbor_again(rt, dag, root, Direction::Incoming, refused);
         holds(rt, edges < 64);
-        counts(rt, &dag, edges + 3, edges + 2);
+        counts(rt, dag, edges + 3, edges + 2);
     }
 }
 
@@ -188,16 +206,20 @@ fn parents_set<S: Kind>(rt: &impl Abort, alloc: Global, refused: &mut bool) {
 // Edges in batches, and a batch of none.
 fn series<S: Kind>(rt: &impl Abort, alloc: Global, refused: &mut bool) {
     let mut dag: Plain<S> = begun(rt, alloc, refused);
+    add_series(rt, &mut dag, refused);
+}
+
+fn add_series<S: Kind>(rt: &impl Abort, dag: &mut Plain<S>, refused: &mut bool) {
     let edges = dag.edge_count();
     for _ in 0..20 {
-        add_node_again(rt, &mut dag, refused);
+        add_node_again(rt, dag, refused);
     }
     for _ in 0..4 {
-        add_edges_again(rt, &mut dag, 5, refused);
+        add_edges_again(rt, dag, 5, refused);
     }
     holds(rt, edges < 64);
-    is_fan(rt, &dag, edges + 20, S::GAP);
-    let none = made(rt, add_edges(rt, &mut dag, 0));
+    is_fan(rt, dag, edges + 20, S::GAP);
+    let none = made(rt, add_edges(rt, dag, 0));
     same(rt, none.len(), 0);
 }
 
@@ -267,13 +289,23 @@ fn reserved_nodes<S: Kind>(rt: &(impl Abort + Env), alloc: Global, refused: &mut
 
 // Edges to nodes that are made for them. With a gap the first one takes the vacant slots and more.
 fn extension<S: Kind>(rt: &impl Abort, alloc: Global, refused: &mut bool) {
-    let mut dag = Plain::<S>::new(alloc);
+    let mut dag: Plain<S> = fan_or_nothing(rt, alloc, refused);
+    extend_far(rt, &mut dag, refused);
+}
+
+// A small fan with a gap, or no node.
+fn fan_or_nothing<S: Kind>(rt: &impl Abort, alloc: Global, refused: &mut bool) -> Plain<S> {
     if S::GAP {
-        dag = small_fan(rt, alloc, refused);
+        small_fan(rt, alloc, refused)
+    } else {
+        Plain::<S>::new(alloc)
     }
+}
+
+fn extend_far<S: Kind>(rt: &impl Abort, dag: &mut Plain<S>, refused: &mut bool) {
     let first = if S::GAP { 6 } else { 1 };
     for child in first..first + 20 {
-        extend_again(rt, &mut dag, child, refused);
+        extend_again(rt, dag, child, refused);
     }
 }
 
@@ -390,18 +422,35 @@ fn made_again<S: Kind>(
 // A dag that is made of a small fan.
 fn copies<S: Kind>(rt: &impl Abort, alloc: Global, way: Way, refused: &mut bool) {
     let dag: Plain<S> = small_fan(rt, alloc, refused);
+    copy_again(rt, &dag, way, refused);
+    is_small_fan(rt, &dag);
+}
+
+fn is_small_fan<S: Kind>(rt: &impl Abort, dag: &Plain<S>) {
+    is_fan(rt, dag, if S::GAP { 2 } else { 3 }, S::GAP);
+}
+
+fn copy_again<S: Kind>(rt: &impl Abort, dag: &Plain<S>, way: Way, refused: &mut bool) {
     let mut calls = Calls { nodes: 0, edges: 0 };
-    let mut copy = made_again(rt, &dag, way, &mut calls, refused);
+    let mut copy = made_again(rt, dag, way, &mut calls, refused);
+    same(rt, calls, calls_of(dag, way));
+    same(rt, state_of(&copy), state_of(dag));
+    fill_gap(rt, &mut copy);
+}
+
+// How often the closures are called.
+fn calls_of<S: Kind>(dag: &Plain<S>, way: Way) -> Calls {
     let (nodes, edges) = match way {
         Way::Copy => (0, 0),
         Way::Map | Way::Part => (dag.node_count(), dag.edge_count()),
     };
-    same(rt, calls, Calls { nodes, edges });
-    same(rt, state_of(&copy), state_of(&dag));
-    is_fan(rt, &dag, if S::GAP { 2 } else { 3 }, S::GAP);
+    Calls { nodes, edges }
+}
+
+// A vacant slot needs no memory.
+fn fill_gap<S: Kind>(rt: &impl Abort, dag: &mut Plain<S>) {
     if S::GAP {
-        // A vacant slot needs no memory.
-        same(rt, made(rt, add_node(rt, &mut copy, 2)).index(), 2);
+        same(rt, made(rt, add_node(rt, dag, 2)).index(), 2);
     }
 }
 
@@ -425,14 +474,28 @@ fn set_again<S: Kind>(rt: &impl Abort, dag: &Plain<S>, refused: &mut bool) -> No
 // Sets and a matrix for a small fan. One of the sets was made for a dag without nodes.
 fn sets<S: Kind>(rt: &impl Abort, alloc: Global, refused: &mut bool) {
     let dag: Plain<S> = small_fan(rt, alloc, refused);
-    let set = set_again(rt, &dag, refused);
+    visit_again(rt, alloc, &dag, refused);
+    pair_again(rt, &dag, refused);
+}
+
+fn visit_again<S: Kind>(rt: &impl Abort, alloc: Global, dag: &Plain<S>, refused: &mut bool) {
+    let set = set_again(rt, dag, refused);
     holds(rt, !set.is_visited(NodeIndex::new(3)));
-    let mut small = set_again(rt, &Plain::<S>::new(alloc), refused);
+    let mut small = small_set::<S>(rt, alloc, refused);
     if dag.reset_map(&mut small).is_err() {
         refuse(rt, refused);
         made(rt, dag.reset_map(&mut small));
     }
     holds(rt, !small.is_visited(NodeIndex::new(3)));
+}
+
+// A set for a dag without nodes.
+fn small_set<S: Kind>(rt: &impl Abort, alloc: Global, refused: &mut bool) -> NodeSet<u32> {
+    let none = Plain::<S>::new(alloc);
+    set_again(rt, &none, refused)
+}
+
+fn pair_again<S: Kind>(rt: &impl Abort, dag: &Plain<S>, refused: &mut bool) {
     let matrix = match dag.adjacency_matrix() {
         Ok(matrix) => matrix,
         Err(AllocError) => {

@@ -217,10 +217,19 @@ fn compare_again<S: CompactKind>(
 
 fn compare<S: CompactKind>(rt: &impl Abort, alloc: Global, refused: &mut bool) {
     let dag: Plain<S> = small_fan(rt, alloc, refused);
+    compare_with(rt, alloc, &dag, refused);
+}
+
+fn compare_with<S: CompactKind>(
+    rt: &impl Abort,
+    alloc: Global,
+    dag: &Plain<S>,
+    refused: &mut bool,
+) {
     let mut other: Plain<S> = small_fan(rt, alloc, refused);
     join_again(rt, &mut other, (1, 2), false, refused);
-    compare_again(rt, &dag, &dag, true, refused);
-    compare_again(rt, &dag, &other, false, refused);
+    compare_again(rt, dag, dag, true, refused);
+    compare_again(rt, dag, &other, false, refused);
     counts(rt, &other, 4, 4);
 }
 
