@@ -321,19 +321,25 @@ fn room_behind<D: Display>(dot: &D, room: usize) -> Option<usize> {
     }
 }
 
-fn draw_in_little_room<S: Store<u32, NodeWeight = Text, EdgeWeight = u32>>(
-    rt: &impl Abort,
-    alloc: Global,
-) {
-    let graph: S = graph_of(rt, alloc, &["s\"w", "reap"], &[(0, 1, 90)]);
-    let path = [node(rt, 0), node(rt, 1)];
-    let stages = [list(rt, alloc, &path)];
-    let dot = Dot::of_graph(&graph).bold(&path).ranks(&stages);
+// Asserts that a picture fits a writer with room for all of it, and no other.
+fn needs_room<D: Display + Drop>(rt: &impl Abort, alloc: Global, dot: D) {
     let whole = made(rt, format!(in alloc; "{dot}")).len();
     for room in 0..whole {
         same(rt, room_behind(&dot, room), None);
     }
     same(rt, room_behind(&dot, whole), Some(0));
+}
+
+fn draw_in_little_room<S: Store<u32, NodeWeight = Text, EdgeWeight = u32>>(
+    rt: &impl Abort,
+    alloc: Global,
+) {
+    let graph: S = graph_of(rt, alloc, &["s\"w", "reap"], &[(0, 1, 90)]);
+    let (first, last) = (node(rt, 0), node(rt, 1));
+    let path = [first, last];
+    let stages = [list(rt, alloc, &[first, last])];
+    let dot = Dot::of_graph(&graph).bold(&path).ranks(&stages);
+    needs_room(rt, alloc, dot);
 }
 
 #[test]

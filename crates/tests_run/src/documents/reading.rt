@@ -94,9 +94,10 @@ pub fn takes_vacant_slots<S: Kind>(rt: &impl Abort, alloc: Global, text: &str) {
     for wanted in [2, 0, 4] {
         takes_node(rt, &mut dag, wanted);
     }
-    let ends = (node(rt, 1), node(rt, 3));
+    let a = node(rt, 1);
+    let b = node(rt, 3);
     for wanted in [0, 2] {
-        takes_edge(rt, &mut dag, ends, wanted);
+        takes_edge(rt, &mut dag, (a, b), wanted);
     }
 }
 
