@@ -40,6 +40,12 @@ pub fn remove_edges<Ix: IndexType, S: Store<Ix>>(store: &mut S, edges: &[EdgeInd
 ///
 /// Returns `AllocError` if the scratch cannot grow to the bounds of the graph; the store is
 /// unchanged.
+///
+/// # Complexity
+///
+/// One search for each node that the roots reach, which stays before the node's last child in
+/// `order`; or, where that is expected to look at more edges, O(nodes * edges / 512) steps of 512
+/// bits each. Then the removals.
 pub fn transitive_reduce<Ix: IndexType, S: Store<Ix>>(
     store: &mut S,
     order: &Order<Ix>,

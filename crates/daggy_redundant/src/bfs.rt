@@ -12,7 +12,7 @@ use daggy_base::link::Link;
 use daggy_base::source::EdgeSource;
 use daggy_search::Worklist;
 
-// Appends a node to the queue of a worklist unless it is there, and returns the new length.
+/// Appends a node to the queue of a worklist unless it is there, and returns the new length.
 #[inline]
 pub fn enqueue<Ix: IndexType>(work: &mut Worklist<Ix>, len: usize, n: NodeIndex<Ix>) -> usize
     requires low { Ix.number n < length work.old.entered }
@@ -37,6 +37,7 @@ pub fn enqueue<Ix: IndexType>(work: &mut Worklist<Ix>, len: usize, n: NodeIndex<
     len + 1
 }
 
+/// Marks node `i`, unless the node at the head of the queue is the first one.
 #[inline]
 pub fn mark_unless_first<Ix: IndexType>(work: &mut Worklist<Ix>, head: usize, i: usize)
     requires { i < length work.old.marked }
@@ -49,9 +50,9 @@ pub fn mark_unless_first<Ix: IndexType>(work: &mut Worklist<Ix>, head: usize, i:
     }
 }
 
-// Extends the queue of a worklist, of `len` nodes, to everything reachable from them, breadth
-// first, and returns its new length. The nodes in the queue are entered; the children of every node
-// but the first are marked.
+/// Extends the queue of a worklist, of `len` nodes, to everything reachable from them, breadth
+/// first, and returns its new length. The nodes in the queue are entered; the children of every node
+/// but the first are marked.
 pub fn bfs<Ix: IndexType, S: EdgeSource<Ix>>(
     source: &mut S,
     work: &mut Worklist<Ix>,

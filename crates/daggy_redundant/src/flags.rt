@@ -10,7 +10,7 @@ use daggy_base::index::{EdgeIndex, IndexType, NodeIndex};
 use daggy_base::source::EdgeSource;
 use daggy_search::Worklist;
 
-// Clears all flags.
+/// Clears all flags.
 pub fn unflag<Ix: IndexType>(flags: &mut [EdgeIndex<Ix>])
     ensures none { (e : ℕ) → ¬ IsFlagged Ix.greatest (map Ix.number flags.new) e }
     ensures kept { length flags.new ≡ length flags.old }
@@ -22,7 +22,7 @@ pub fn unflag<Ix: IndexType>(flags: &mut [EdgeIndex<Ix>])
     }
 }
 
-// Flags an edge.
+/// Flags an edge.
 #[inline]
 pub fn flag<Ix: IndexType>(flags: &mut [EdgeIndex<Ix>], e: EdgeIndex<Ix>)
     requires { Ix.number e < length flags.old }
@@ -55,7 +55,7 @@ fn flag_if_marked<Ix: IndexType>(
     }
 }
 
-// Flags the edges that lead from `u` to a marked child.
+/// Flags the edges that lead from `u` to a marked child.
 pub fn flag_marked<Ix: IndexType, S: EdgeSource<Ix>>(
     source: &mut S,
     u: NodeIndex<Ix>,
@@ -81,8 +81,8 @@ pub fn flag_marked<Ix: IndexType, S: EdgeSource<Ix>>(
     }
 }
 
-// Moves the indices of the flagged edges to the front, in ascending order, and returns how many
-// there are. This overwrites the flags.
+/// Moves the indices of the flagged edges to the front, in ascending order, and returns how many
+/// there are. This overwrites the flags.
 pub fn collect_flags<Ix: IndexType>(flags: &mut [EdgeIndex<Ix>], bound: usize) -> usize
     requires within { bound ≤ length flags.old }
     requires real { bound ≤ Ix.greatest }

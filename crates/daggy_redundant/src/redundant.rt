@@ -105,7 +105,7 @@ fn leave_redundant<Ix: IndexType, S: EdgeSource<Ix>>(
     collect_flags(flags, bound)
 }
 
-// The first `count` items of a list.
+/// The first `count` items of a list.
 pub fn front<T>(list: &[T], count: usize) -> &[T]
     requires { count ≤ length list.now }
     ensures value { result.now ≡ take count list.now }

@@ -40,7 +40,7 @@ fn enter_roots<Ix: IndexType, S: EdgeSource<Ix>>(
     len
 }
 
-// Queues all nodes reachable from the existing roots, and returns how many there are.
+/// Queues all nodes reachable from the existing roots, and returns how many there are.
 pub fn queue_below<Ix: IndexType, S: EdgeSource<Ix>>(
     source: &mut S,
     roots: &[NodeIndex<Ix>],
@@ -89,8 +89,8 @@ fn lay_aside<Ix: IndexType>(work: &mut Worklist<Ix>, count: usize)
     }
 }
 
-// Writes all nodes reachable from the existing roots over the first cursors, and returns how many
-// there are.
+/// Writes all nodes reachable from the existing roots over the first cursors, and returns how many
+/// there are.
 pub fn enter_below<Ix: IndexType, S: EdgeSource<Ix>>(
     source: &mut S,
     roots: &[NodeIndex<Ix>],
