@@ -1,8 +1,7 @@
--- The edges that leave the nodes of a list, and the end of a path.
+-- How many edges leave the nodes of a list.
 use Rattle.std.proofs.Common.{◌≡◌, ℕ, ◌+◌, ◌≤◌, inl, inr, List, [], ◌∷◌, ◌++◌, length, take, drop, refl, sym, ap, subst, ◌∙◌, arith}
 use Rattle.std.proofs.lemmas.List.{length-append, take-append-drop}
-use Rattle.daggy_base.specs.Graph.{Graph, HasNode, out_list, edge_count}
-use Rattle.daggy_base.specs.Path.{IsPath, Reaches, end_of}
+use Rattle.daggy_base.specs.Graph.{Graph, out_list, edge_count}
 use Rattle.daggy_base.specs.Ordered.{IsOrderOf, edges_from, stretch}
 use Rattle.daggy_base.specs.WellFormed.{IsWellFormed}
 use Rattle.daggy_base.proofs.Lists.{Mem, Unique, mem_out, split_at, unique_right, unique_from_distinct}
@@ -35,13 +34,6 @@ edges_few {N} {E} g (x ∷ xs) ys u h =
 pub lists_length : {N E : Type 0} (g : Graph N E) (xs : List ℕ) → length (lists_of g xs) ≡ edges_from g xs
 lists_length g [] = refl
 lists_length g (x ∷ xs) = let rest = lists_length g xs in omega (arith, length-append (out_list g x) (lists_of g xs))
-
-last_exists : {N E : Type 0} (g : Graph N E) (u : ℕ) (rest : List ℕ) → IsPath g (u ∷ rest) → HasNode g (end_of u rest)
-last_exists g u [] p = p
-last_exists g u (v ∷ rest) p = last_exists g v rest p.2
-
-pub reached_exists : {N E : Type 0} (g : Graph N E) (u v : ℕ) → Reaches g u v → HasNode g v
-reached_exists g u v r = let P : ℕ → Type 0 = λ z. HasNode g z in subst P r.2 (last_exists g u r.0 r.1)
 
 -- the edges that leave a stretch of an order
 pub few_edges : {N E : Type 0} {end : ℕ} {g : Graph N E} {order : List ℕ}

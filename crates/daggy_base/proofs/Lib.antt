@@ -6,6 +6,7 @@ pub mod Copies
 pub mod CallsInTurn
 pub mod OutEdgesRead
 pub mod EdgesFrom
+pub mod PathEnds
 pub mod Slots
 pub mod MappedSlots
 pub mod FullSlots

@@ -14,7 +14,8 @@ use Rattle.daggy_base.proofs.Lists.{Mem, Unique, mem_left, mem_right, mem_cases,
 use Rattle.daggy_base.proofs.Lists.{fewer_than}
 use Rattle.daggy_base.proofs.Lists.{contains_mem}
 use Rattle.daggy_base.proofs.OutEdgesRead.{read_part}
-use Rattle.daggy_base.proofs.EdgesFrom.{edges_few, lists_length, reached_exists}
+use Rattle.daggy_base.proofs.EdgesFrom.{edges_few, lists_length}
+use Rattle.daggy_base.proofs.PathEnds.{reached_exists}
 use Rattle.daggy_search.proofs.SearchProgress.{Met, reaches_stays, marked_within, set_marked}
 use Rattle.daggy_search.proofs.SearchState.{Start, Reading, Searching, all_met_here, from_marked, only_reached}
 use Rattle.daggy_search.proofs.SearchState.{child_found}

@@ -14,7 +14,7 @@ use Rattle.daggy_search.proofs.SearchProgress.{reaches_stays}
 use Rattle.daggy_base.proofs.LongerPaths.{reaches_more}
 use Rattle.daggy_base.specs.Ordered.{IsOrderOf, IsParted, place, stretch}
 use Rattle.daggy_order.specs.Links.{LabelsAscend, IsLabelled, IsMoved, StandBefore}
-use Rattle.daggy_base.proofs.EdgesFrom.{reached_exists}
+use Rattle.daggy_base.proofs.PathEnds.{reached_exists}
 use Rattle.daggy_base.proofs.Sorted.{place_at, Sorted, distinct_from_unique, unique_cross, sorted_from_places}
 use Rattle.daggy_base.proofs.Sorted.{same_place, places_from_sorted, parts, parts_in, parts_out, parts_unique, parts_sorted}
 use Rattle.daggy_base.proofs.Sorted.{parts_before, apart, place_same, place_right}

@@ -12,7 +12,7 @@ use Rattle.daggy_base.proofs.PathsWithEdge.{reaches_itself, reaches_before, no_r
 use Rattle.daggy_search.proofs.SearchProgress.{reaches_stays}
 use Rattle.daggy_base.proofs.OutEdgesRead.{listed}
 use Rattle.daggy_base.specs.Ordered.{IsOrderOf, place, stretch}
-use Rattle.daggy_base.proofs.EdgesFrom.{reached_exists}
+use Rattle.daggy_base.proofs.PathEnds.{reached_exists}
 use Rattle.daggy_order.proofs.OrderLaws.{acyclic_from_order}
 use Rattle.daggy_base.proofs.Sorted.{place_at}
 use Rattle.daggy_base.proofs.ListParts.{in_stretch}

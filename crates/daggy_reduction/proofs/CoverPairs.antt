@@ -7,7 +7,8 @@ use Rattle.daggy_base.specs.Reduction.{IsBelow, Covers}
 use Rattle.daggy_base.proofs.PathsWithEdge.{reaches_itself, no_round}
 use Rattle.daggy_redundant.specs.Comparison.{HaveSameReachability}
 use Rattle.daggy_reduction.proofs.LostPairs.{LosesRoundPairs}
-use Rattle.daggy_redundant.proofs.Paths.{has_first, reaches_one, round_parts, round_through}
+use Rattle.daggy_base.proofs.PathEnds.{path_begins}
+use Rattle.daggy_redundant.proofs.Paths.{reaches_one, round_parts, round_through}
 
 -- a cover is joined, in whichever graph
 pub cover_joined : {N E : Type 0} (g : Graph N E) (u v : ℕ) → Covers g u v → AreJoined g u v
@@ -23,7 +24,7 @@ cover_joined g u v c = go c.reached.0 c.reached.1 c.reached.2
           | inl here ↦ subst P here p.1
           | inr other ↦ elim (cases_eq w u) [
             | inl back ↦ go rest (subst Q back p.2) (subst R back e)
-            | inr apart ↦ absurd (c.nothing_between w apart other (reaches_one g u w p.0 (has_first g w rest p.2) p.1) (
+            | inr apart ↦ absurd (c.nothing_between w apart other (reaches_one g u w p.0 (path_begins g w rest p.2) p.1) (
               rest,
               p.2,
               e,

@@ -8,7 +8,7 @@ use Rattle.daggy_base.specs.WellFormed.{IsWellFormed}
 use Rattle.daggy_base.proofs.Lists.{Mem, contains_mem}
 use Rattle.daggy_base.proofs.LongerPaths.{reaches_more}
 use Rattle.daggy_base.proofs.Sorted.{place_at, same_place}
-use Rattle.daggy_base.proofs.EdgesFrom.{reached_exists}
+use Rattle.daggy_base.proofs.PathEnds.{reached_exists}
 use Rattle.daggy_order.proofs.OrderEdgeResult.{reached_later}
 use Rattle.daggy_search.specs.Reversed.{reversed}
 use Rattle.daggy_search.proofs.ReversedGraph.{joined_into, joined_out, reaches_into, reaches_out}

@@ -7,20 +7,13 @@ use Rattle.daggy_base.proofs.Lists.{Mem, Unique, fewer_than}
 use Rattle.daggy_base.proofs.PathsWithEdge.{reaches_on}
 use Rattle.daggy_base.proofs.PathsWithNode.{bound_low}
 use Rattle.daggy_base.proofs.OutEdgesRead.{below_bound}
+use Rattle.daggy_base.proofs.PathEnds.{path_begins}
 
 pub end_append : (u : ℕ) (rest more : List ℕ) → end_of u (rest ++ more) ≡ end_of (end_of u rest) more
 end_append u [] more = refl
 end_append u (v ∷ rest) more = end_append v rest more
 
 module _ {N E : Type 0} (g : Graph N E) where
-  pub has_first : (u : ℕ) (rest : List ℕ) → IsPath g (u ∷ rest) → HasNode g u
-  has_first u [] p = p
-  has_first u (v ∷ rest) p = p.0
-
-  pub has_last : (u : ℕ) (rest : List ℕ) → IsPath g (u ∷ rest) → HasNode g (end_of u rest)
-  has_last u [] p = p
-  has_last u (v ∷ rest) p = has_last v rest p.2
-
   -- a path on from the end of another
   pub path_append : (u : ℕ) (rest more : List ℕ)
       → IsPath g (u ∷ rest) → IsPath g (end_of u rest ∷ more) → IsPath g (u ∷ (rest ++ more))
@@ -33,7 +26,7 @@ module _ {N E : Type 0} (g : Graph N E) where
   path_to u [] x p m = absurd m
   path_to u (v ∷ rest) x p m =
       elim m [
-        | inl e ↦ (v, [], (p.0, p.1, has_first v rest p.2), sym e)
+        | inl e ↦ (v, [], (p.0, p.1, path_begins g v rest p.2), sym e)
         | inr later ↦ let q = path_to v rest x p.2 later in (v, q.0 ∷ q.1, (p.0, p.1, q.2), q.3)
       ]
 

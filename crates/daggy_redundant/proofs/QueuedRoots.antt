@@ -9,7 +9,7 @@ use Rattle.daggy_base.proofs.Lists.{Mem, Unique, mem_left, mem_right, mem_cases,
 use Rattle.daggy_base.proofs.Lists.{fewer_than, unique_from_distinct}
 use Rattle.daggy_base.proofs.Lists.{unique_append}
 use Rattle.daggy_base.proofs.OutEdgesRead.{below_bound}
-use Rattle.daggy_base.proofs.EdgesFrom.{reached_exists}
+use Rattle.daggy_base.proofs.PathEnds.{reached_exists}
 use Rattle.daggy_search.specs.Work.{Work, IsSized, IsCleared}
 use Rattle.daggy_search.proofs.Sized.{sized_entered, sized_put_node}
 use Rattle.daggy_search.proofs.SearchProgress.{marked_within, set_marked}

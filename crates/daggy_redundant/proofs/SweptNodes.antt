@@ -10,7 +10,7 @@ use Rattle.daggy_base.proofs.Lists.{Mem, mem_left, mem_right, mem_cases, mem_con
 use Rattle.daggy_base.proofs.Lists.{unique_from_distinct, pigeon}
 use Rattle.daggy_base.proofs.OutEdgesRead.{lists_of, lists_few, below_bound}
 use Rattle.daggy_redundant.specs.Flags.{IsFlagged, LeavesRound, FlagsRound}
-use Rattle.daggy_redundant.proofs.Paths.{has_last}
+use Rattle.daggy_base.proofs.PathEnds.{path_ends}
 use Rattle.daggy_redundant.proofs.QueueProgress.{lists_append}
 
 -- a number for each node of a list, summed
@@ -124,7 +124,7 @@ some_there (y ∷ xs) zero h = h
 some_there (y ∷ xs) (suc x) h = some_there xs x h
 
 pub below_exists : {N E : Type 0} (g : Graph N E) (roots : List ℕ) (n : ℕ) → IsBelow g roots n → HasNode g n
-below_exists g roots n b = let P : ℕ → Type 0 = λ z. HasNode g z in subst P b.3.2 (has_last g b.0 b.3.0 b.3.1)
+below_exists g roots n b = let P : ℕ → Type 0 = λ z. HasNode g z in subst P b.3.2 (path_ends g b.0 b.3.0 b.3.1)
 
 -- distinct nodes are no more than exist
 pub few_there : {N E : Type 0} (g : Graph N E) (xs : List ℕ)

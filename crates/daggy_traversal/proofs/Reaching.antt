@@ -6,6 +6,7 @@ use Rattle.daggy_base.specs.Graph.{Graph, HasNode}
 use Rattle.daggy_base.specs.Path.{AreJoined, IsPath, end_of}
 use Rattle.daggy_base.specs.WellFormed.{IsWellFormed}
 use Rattle.daggy_base.proofs.LongerPaths.{reaches_more}
+use Rattle.daggy_base.proofs.PathEnds.{path_begins, path_ends}
 use Rattle.daggy_traversal.specs.Traversal.{LeadsTo, LeadsFar}
 
 module _ {N E : Type 0} {end : ℕ} {g : Graph N E} (w : IsWellFormed end g) where
@@ -31,14 +32,6 @@ module _ {N E : Type 0} {end : ℕ} {g : Graph N E} (w : IsWellFormed end g) whe
 pub leads_nowhere : {N E : Type 0} (g : Graph N E) (dir : Direction) (a : ℕ) → HasNode g a → LeadsFar dir g a a
 leads_nowhere g Outgoing a exists = ([], exists, refl)
 leads_nowhere g Incoming a exists = ([], exists, refl)
-
-path_begins : {N E : Type 0} (g : Graph N E) (u : ℕ) (rest : List ℕ) → IsPath g (u ∷ rest) → HasNode g u
-path_begins g u [] p = p
-path_begins g u (v ∷ rest) p = p.0
-
-path_ends : {N E : Type 0} (g : Graph N E) (u : ℕ) (rest : List ℕ) → IsPath g (u ∷ rest) → HasNode g (end_of u rest)
-path_ends g u [] p = p
-path_ends g u (v ∷ rest) p = path_ends g v rest p.2
 
 pub start_exists : {N E : Type 0} (g : Graph N E) (dir : Direction) (a v : ℕ) → LeadsFar dir g a v → HasNode g a
 start_exists g Outgoing a v r = path_begins g a r.0 r.1

@@ -1,6 +1,6 @@
 use Rattle.std.proofs.Common.{refl, sym, ◌∙◌}
 use Rattle.std.proofs.lemmas.Bool.{false≢true}
-use Rattle.daggy_base.proofs.EdgesFrom.{reached_exists}
+use Rattle.daggy_base.proofs.PathEnds.{reached_exists}
 use Rattle.daggy_order.proofs.OrderEdgeResult.{not_reached}
 use Rattle.daggy_order.proofs.Tails.{tailed_flushed}
 use Rattle.daggy_order.proofs.order.path.path_in.Goals as goal

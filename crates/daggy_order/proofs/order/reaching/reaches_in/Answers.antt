@@ -1,7 +1,7 @@
 use Rattle.std.proofs.Common.{◌≡◌, ◌↔◌, ◌∙◌, Bool, Option, None, Some, is_some, not, refl, sym, true, false}
 use Rattle.std.proofs.lemmas.Bool.{false≢true}
 use Rattle.std.proofs.lemmas.Option.{none-some}
-use Rattle.daggy_base.proofs.EdgesFrom.{reached_exists}
+use Rattle.daggy_base.proofs.PathEnds.{reached_exists}
 use Rattle.daggy_order.proofs.OrderEdgeResult.{not_reached}
 use Rattle.daggy_order.proofs.Tails.{tailed_flushed}
 use Rattle.daggy_order.proofs.order.reaching.reaches_in.Goals as goal

@@ -2,7 +2,7 @@ use Rattle.std.proofs.Common.{◌≡◌, ◌∙◌, sym, ap, subst, arith}
 use Rattle.std.proofs.Common.{get_or}
 use Rattle.std.proofs.lemmas.Option.{IfSome_then}
 use Rattle.daggy_order.specs.Links.{Stored, IsLabelled}
-use Rattle.daggy_base.proofs.EdgesFrom.{reached_exists}
+use Rattle.daggy_base.proofs.PathEnds.{reached_exists}
 use Rattle.daggy_order.proofs.OrderEdgeResult.{lower_label, lower_earlier, ascending, placed, between}
 use Rattle.daggy_order.proofs.order.search.reaches_before.Given.{Over}
 use Rattle.daggy_order.proofs.order.search.reaches_before.Goals.{After-label-limit}
