@@ -1,0 +1,14 @@
+pub mod Groups
+pub mod Placing
+pub mod Tallies
+pub mod Parts
+pub mod Progress
+pub mod Steps
+pub mod Cuts
+pub mod Rounds
+pub mod NotedEdges
+pub mod Gathering
+pub mod Condensing
+pub mod Condensed
+pub mod MetChildren
+pub mod Connecting

@@ -1,0 +1,6 @@
+pub mod CycleEdges
+pub mod EdgeWays
+pub mod Feedback
+pub mod Queue
+pub mod Shortest
+pub mod Trying

@@ -1,0 +1,5 @@
+//! Components, cycles and condensations of graphs, by example.
+#![tactic(auto)]
+
+#[cfg(test)]
+mod tests;
