@@ -1,0 +1,2 @@
+pub mod SameStates
+pub mod EdgesAlong
