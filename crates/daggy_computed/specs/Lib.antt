@@ -1,0 +1,9 @@
+pub mod Heaps
+pub mod Marking
+pub mod Inputs
+pub mod Cells
+pub mod Slots
+pub mod Settling
+pub mod Refreshing
+pub mod Computation
+pub mod Recomputing

@@ -1,0 +1,28 @@
+-- Refreshing in an order.
+use Rattle.std.specs.Prelude.{◌≡◌, ℕ, ◌<◌, List, [], ◌∷◌, Contains, length}
+use Rattle.daggy_base.specs.Graph.{Graph, HasNode}
+use Rattle.daggy_base.specs.Ordered.{place}
+use Rattle.daggy_computed.specs.declared.cell.Cell.{Cell}
+use Rattle.daggy_computed.specs.declared.entry.Entry.{Entry}
+use Rattle.daggy_computed.specs.declared.error.RefreshError.{RefreshError}
+use Rattle.daggy_computed.specs.declared.error.RefreshError.TheVariants.{Memory, Failed}
+use Rattle.daggy_computed.specs.Cells.{IsStaleAt}
+use Rattle.daggy_computed.specs.Settling.{IsRefused}
+
+-- why a refresh ended: there was no memory, or f returned an error for a node that is still stale
+abbrev pub IsCause : {K V X E I : Type 0} → (number : I → ℕ) → (refuses : K → List V → X → Type 0) → Graph (Cell K V) E
+    → RefreshError X I → Type 0
+IsCause number refuses g Memory = Unit {0}
+IsCause number refuses g (Failed n x) = IsRefused refuses g (number n) x
+
+-- the places of the nodes in an order ascend
+abbrev pub IsAscending : (order : List ℕ) → List ℕ → Type 0
+IsAscending order [] = Unit {0}
+IsAscending order (n ∷ ns) = ((m : ℕ) → Contains ns m → place order n < place order m) × IsAscending order ns
+
+-- the values and marks kept fit a graph, and each stale node waits
+pub record IsReady {K V E : Type 0} (g : Graph K E) (es : List (Entry V)) (slots : ℕ) (queue : List ℕ) : Type 0 where
+  pub sized : (m : ℕ) → HasNode g m → m < length es
+  pub slots_are : length es ≡ slots
+  pub real : (m : ℕ) → IsStaleAt es m → HasNode g m
+  pub waits : (m : ℕ) → IsStaleAt es m → Contains queue m
