@@ -1,4 +1,1 @@
-pub mod Edges
-pub mod Escaping
-pub mod Lines
 pub mod Ranks

@@ -1,8 +1,9 @@
 -- The text of a picture.
-use Rattle.std.specs.Prelude.{◌≡◌, ℕ, zero, suc, List, [], ◌∷◌, ◌++◌, Bool, false, ◌&&◌, ◌||◌, if◌then◌else◌, ◌==◌, length, codes, decimal, Option, Some, None, is_some}
+use Rattle.std.specs.Prelude.{◌≡◌, ℕ, List, [], ◌∷◌, ◌++◌, Bool, false, ◌&&◌, ◌||◌, if◌then◌else◌, ◌==◌, length, codes, decimal, Option, Some, is_some}
 use Rattle.std.specs.Fmt.{◌++?◌}
 use Rattle.std.specs.List.{list_any, flat_map}
-use Rattle.daggy_base.specs.Graph.{Graph, Edge, node_weight, slot}
+use Rattle.daggy_base.specs.Graph.{Graph, Edge, node_weight}
+use Rattle.daggy_formats.specs.Lines.{lines_of}
 
 module _ {I : Type 0} (number : I → ℕ) where
   -- a path passes through n
@@ -32,39 +33,50 @@ abbrev pub edge_line : ℕ → ℕ → Option (List ℕ) → Bool → Option (Li
 edge_line a b label bold =
     Some (codes "    " ++ (decimal a ++ (codes " -> " ++ (decimal b ++ codes " [ ")))) ++? (label ++? Some (end_of_line bold))
 
--- the line of what a slot holds, if it holds anything
-abbrev pub line_of : {A : Type 0} → (A → Option (List ℕ)) → Option A → Option (List ℕ)
-line_of line None = Some []
-line_of line (Some x) = line x
-
--- the lines of the first n slots, one after another
-abbrev pub lines_of : {A : Type 0} → (ℕ → A → Option (List ℕ)) → List (Option A) → ℕ → Option (List ℕ)
-lines_of line slots zero = Some []
-lines_of line slots (suc n) = lines_of line slots n ++? line_of (line n) (slot slots n)
-
--- what is drawn: a graph, with labels, nodes that share a rank, and a path in bold
+-- what is drawn: a graph, with labels, nodes that share a rank, a path in bold, and parents above their children or to
+-- their left
 pub record Drawing (N E L M I : Type 0) : Type 0 where
   pub graph : Graph N E
   pub node_labels : L
   pub edge_labels : M
   pub stages : List (List I)
   pub path : List I
+  pub left_to_right : Bool
 
 -- the same with other labels at the nodes
 abbrev pub with_node_labels : {N E L M K I : Type 0} → Drawing N E L M I → K → Drawing N E K M I
 with_node_labels d labels =
-    record { graph = d.graph; node_labels = labels; edge_labels = d.edge_labels; stages = d.stages; path = d.path }
+    record {
+      graph = d.graph;
+      node_labels = labels;
+      edge_labels = d.edge_labels;
+      stages = d.stages;
+      path = d.path;
+      left_to_right = d.left_to_right;
+    }
 
 -- the same with other labels at the edges
 abbrev pub with_edge_labels : {N E L M K I : Type 0} → Drawing N E L M I → K → Drawing N E L K I
 with_edge_labels d labels =
-    record { graph = d.graph; node_labels = d.node_labels; edge_labels = labels; stages = d.stages; path = d.path }
+    record {
+      graph = d.graph;
+      node_labels = d.node_labels;
+      edge_labels = labels;
+      stages = d.stages;
+      path = d.path;
+      left_to_right = d.left_to_right;
+    }
 
--- a drawing of a graph without ranks and without a path
+-- a drawing of a graph without ranks and without a path, from top to bottom
 pub record IsPlain {N E L M I : Type 0} (d : Drawing N E L M I) (g : Graph N E) : Type 0 where
   pub graph : d.graph ≡ g
   pub stages : d.stages ≡ []
   pub path : d.path ≡ []
+  pub downward : d.left_to_right ≡ false
+
+-- the first lines
+abbrev pub header : Bool → List ℕ
+header left_to_right = if left_to_right then codes "digraph {\n    rankdir = LR\n" else codes "digraph {\n"
 
 module _ {N E I : Type 0} (number : I → ℕ) where
   -- a node on its rank, if it exists
@@ -87,7 +99,7 @@ module _ {N E L M I : Type 0} (number : I → ℕ) (of : ℕ → I) where
   -- the whole text: nodes, edges, ranks
   abbrev pub picture : (L → I → N → Option (List ℕ)) → (M → I → E → Option (List ℕ)) → Drawing N E L M I → Option (List ℕ)
   picture node_text edge_text d =
-      Some (codes "digraph {\n")
+      Some (header d.left_to_right)
       ++? (lines_of (line_of_node node_text d) d.graph.nodes (length d.graph.nodes)
       ++? (lines_of (line_of_edge edge_text d) d.graph.edges (length d.graph.edges)
       ++? Some (flat_map (rank_line number d.graph) d.stages ++ codes "}\n")))

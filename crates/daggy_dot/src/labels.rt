@@ -8,19 +8,27 @@ use std::fmt::{self, Display, Formatter, Write};
 
 /// The labels of nodes or of edges, by index and weight.
 ///
-/// A type of one's own writes each label by [`write_label`], from anything that is `Display`, as
-/// from a text or from `format_args!`. It may write other attributes too, as `shape = box`.
+/// To write labels of your own, implement it with [`write_label`], which takes any `Display` value,
+/// such as a text or `format_args!`. It may write other attributes too, such as `shape = box`.
 pub trait Label<I, T> {
     // What is written, or `None` if nothing is said of it.
     ghost text: { Self → I → T → Option (List ℕ) } = { λ _ _ _. None };
 
     /// Writes the attributes, each with a space after it, as [`write_label`] writes a label.
+    ///
+    /// # Errors
+    ///
+    /// Returns an error if the formatter fails.
+    ///
+    /// # Complexity
+    ///
+    /// O(length of what is written).
     fn write<W: Write>(&self, index: I, weight: &T, f: &mut Formatter<W>) -> fmt::Result
         ensures { DisplaysOnOk W.write_str_gives f.old result (text self.now index weight.now)
             f.new };
 }
 
-/// The weights, as `Display` writes them.
+/// The weights as labels, as `Display` writes them: the choice of [`Dot::new`](crate::Dot::new).
 #[derive(Clone, Copy, Debug)]
 pub struct WeightLabels;
 
@@ -32,7 +40,18 @@ impl<I: Drop, T: Display> Label<I, T> for WeightLabels {
     }
 }
 
-/// No labels.
+/// No labels: after `Dot::new(&dag).node_labels(NoLabels)` graphviz shows each node with its index.
+///
+/// # Examples
+///
+/// ```
+/// let mut dag: Dag<&'static str, u32> = Dag::new(rt.alloc());
+/// let sow = dag.add_node("sow")?;
+/// let _ = dag.add_child(sow, 90, "reap")?;
+/// let dot = Dot::new(&dag).node_labels(NoLabels);
+/// let picture = format!(in rt.alloc(); "{dot}")?;
+/// assert!(rt; !picture.as_str().contains("sow"));
+/// ```
 #[derive(Clone, Copy, Debug)]
 pub struct NoLabels;
 

@@ -1,15 +1,16 @@
 //! A graph in the language of graphviz.
-ghost use Rattle.std.specs.Prelude.{◌≡◌, length, map, vec_items};
+ghost use Rattle.std.specs.Prelude.{◌≡◌, true, length, map, vec_items};
 ghost use Rattle.std.specs.Fmt.{DisplaysOnOk, WritesOnOk};
 ghost use Rattle.std.specs.List.{flat_map};
 ghost use Rattle.daggy_dot.specs.Picture.{IsPlain, with_node_labels, with_edge_labels};
-ghost use Rattle.daggy_dot.specs.Picture.{line_of_node, line_of_edge, lines_of, rank_line};
+ghost use Rattle.daggy_formats.specs.Lines.{lines_of};
+ghost use Rattle.daggy_dot.specs.Picture.{line_of_node, line_of_edge, rank_line, header};
 
 use crate::labels::{Label, NoLabels, WeightLabels};
 use crate::writing::{write_edge, write_node};
 use daggy_base::index::{EdgeIndex, IndexType, NodeIndex};
+use daggy_base::read_store::ReadStore;
 use daggy_base::source::EdgeSource;
-use daggy_base::store::Store;
 use daggy_dag::acyclic::Acyclic;
 use std::fmt::{self, Display, Formatter, Write};
 use std::marker::{Model, PhantomData};
@@ -22,8 +23,8 @@ use std::marker::{Model, PhantomData};
 ///         0 -> 1 [ label = "90" ]
 ///     }
 ///
-/// The nodes come by ascending index, then the edges by ascending index, each with its label. It
-/// does not allocate.
+/// The nodes come in ascending index order, then the edges in ascending index order, each with its
+/// label. It does not allocate.
 ///
 /// # Examples
 ///
@@ -42,7 +43,7 @@ pub struct Dot<
     N,
     E,
     Ix: IndexType,
-    S: Store<Ix, NodeWeight = N, EdgeWeight = E>,
+    S: ReadStore<Ix, NodeWeight = N, EdgeWeight = E>,
     L = WeightLabels,
     M = WeightLabels,
 > {
@@ -51,13 +52,14 @@ pub struct Dot<
     edge_labels: M,
     stages: &'a [Vec<NodeIndex<Ix>>],
     path: &'a [NodeIndex<Ix>],
+    left_to_right: bool,
     node_weight: PhantomData<N>,
     edge_weight: PhantomData<E>,
 }
 
 impl<'a, N, E, Ix: IndexType, S, L, M> Model for Dot<'a, N, E, Ix, S, L, M>
 where
-    S: Store<Ix, NodeWeight = N, EdgeWeight = E>,
+    S: ReadStore<Ix, NodeWeight = N, EdgeWeight = E>,
 {
     ghost use Rattle.std.specs.Prelude.{map, vec_items};
     ghost use Rattle.daggy_dot.specs.Picture.{Drawing};
@@ -70,12 +72,13 @@ where
       edge_labels = dot.edge_labels;
       stages = map vec_items dot.stages.now;
       path = dot.path.now;
+      left_to_right = dot.left_to_right;
     } };
 }
 
 impl<'a, N: Drop, E: Drop, Ix: IndexType, S> Dot<'a, N, E, Ix, S>
 where
-    S: Store<Ix, NodeWeight = N, EdgeWeight = E>,
+    S: ReadStore<Ix, NodeWeight = N, EdgeWeight = E>,
 {
     /// A picture of a dag, with the weights as labels.
     pub fn new(dag: &'a Acyclic<N, E, Ix, S>) -> Self
@@ -94,6 +97,7 @@ where
             edge_labels: WeightLabels,
             stages: &[],
             path: &[],
+            left_to_right: false,
             node_weight: PhantomData,
             edge_weight: PhantomData,
         }
@@ -102,9 +106,9 @@ where
 
 impl<'a, N: Drop, E: Drop, Ix: IndexType, S, L: Drop, M: Drop> Dot<'a, N, E, Ix, S, L, M>
 where
-    S: Store<Ix, NodeWeight = N, EdgeWeight = E>,
+    S: ReadStore<Ix, NodeWeight = N, EdgeWeight = E>,
 {
-    /// Takes other labels for the nodes.
+    /// Sets the labels of the nodes.
     pub fn node_labels<K>(self, labels: K) -> Dot<'a, N, E, Ix, S, K, M>
         ensures { result ≡ with_node_labels self.entry labels }
     {
@@ -114,12 +118,13 @@ where
             edge_labels: self.edge_labels,
             stages: self.stages,
             path: self.path,
+            left_to_right: self.left_to_right,
             node_weight: PhantomData,
             edge_weight: PhantomData,
         }
     }
 
-    /// Takes other labels for the edges.
+    /// Sets the labels of the edges.
     pub fn edge_labels<K>(self, labels: K) -> Dot<'a, N, E, Ix, S, L, K>
         ensures { result ≡ with_edge_labels self.entry labels }
     {
@@ -129,6 +134,7 @@ where
             edge_labels: labels,
             stages: self.stages,
             path: self.path,
+            left_to_right: self.left_to_right,
             node_weight: PhantomData,
             edge_weight: PhantomData,
         }
@@ -160,6 +166,26 @@ where
         Dot { path, ..self }
     }
 
+    /// Draws each parent to the left of its children instead of above them.
+    pub fn left_to_right(self) -> Self
+        ensures { result ≡ record self.entry { left_to_right = true } }
+    {
+        Dot {
+            left_to_right: true,
+            ..self
+        }
+    }
+
+    fn write_header<W: Write>(&self, f: &mut Formatter<W>) -> fmt::Result
+        ensures { WritesOnOk W.write_str_gives f.old result (header self.now.left_to_right) f.new }
+    {
+        f.write_str(if self.left_to_right {
+            "digraph {\n    rankdir = LR\n"
+        } else {
+            "digraph {\n"
+        })
+    }
+
     // Writes the existing nodes of a stage.
     fn write_stage<W: Write>(&self, stage: &[NodeIndex<Ix>], f: &mut Formatter<W>) -> fmt::Result
         ensures { WritesOnOk W.write_str_gives f.old result
@@ -188,7 +214,7 @@ where
 
 impl<N: Drop, E: Drop, Ix: IndexType, S, L, M> Dot<'_, N, E, Ix, S, L, M>
 where
-    S: Store<Ix, NodeWeight = N, EdgeWeight = E>,
+    S: ReadStore<Ix, NodeWeight = N, EdgeWeight = E>,
     L: Label<NodeIndex<Ix>, N> + Drop,
     M: Label<EdgeIndex<Ix>, E> + Drop,
 {
@@ -227,7 +253,7 @@ where
 
 impl<N: Drop, E: Drop, Ix: IndexType, S, L, M> Display for Dot<'_, N, E, Ix, S, L, M>
 where
-    S: Store<Ix, NodeWeight = N, EdgeWeight = E>,
+    S: ReadStore<Ix, NodeWeight = N, EdgeWeight = E>,
     L: Label<NodeIndex<Ix>, N> + Drop,
     M: Label<EdgeIndex<Ix>, E> + Drop,
 {
@@ -236,7 +262,7 @@ where
     ghost output = { picture Ix.number Ix.of L.text M.text };
 
     fn fmt<W: Write>(&self, f: &mut Formatter<W>) -> fmt::Result {
-        f.write_str("digraph {\n")?;
+        self.write_header(f)?;
         self.write_nodes(f)?;
         self.write_edges(f)?;
         self.write_stages(f)?;

@@ -4,6 +4,8 @@
 #[cfg(test)]
 mod compact;
 #[cfg(test)]
+mod formats;
+#[cfg(test)]
 mod stable;
 #[cfg(test)]
 mod support;

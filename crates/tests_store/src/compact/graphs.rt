@@ -165,9 +165,14 @@ fn weights_are_written_by_index(rt: HostRuntime) {
     let (n, e) = (NodeIndex::new(0), EdgeIndex::new(0));
     holds(&rt, graph.contains_node(n));
     graph[n] = 5;
-    holds(&rt, graph.contains_edge(e));
+    holds(&rt, graph.contains_edge_index(e));
     graph[e] = 6;
     shape(&rt, &graph, &[5, 20], &[(0, 1, 6)]);
+    let other = NodeIndex::new(1);
+    holds(
+        &rt,
+        graph.contains_edge(n, other) && !graph.contains_edge(other, n),
+    );
 }
 
 #[test]

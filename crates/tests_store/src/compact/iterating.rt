@@ -52,6 +52,19 @@ fn edges_of_a_graph_are_gone_through(rt: HostRuntime) {
 }
 
 #[test]
+fn a_graph_is_gone_through_from_the_back(rt: HostRuntime) {
+    let graph = graph_of(&rt, rt.alloc(), &[10, 11, 12], &EDGES);
+    gives(&rt, graph.node_identifiers().rev().map(index), &[2, 1, 0]);
+    gives(&rt, graph.node_weights().rev().copied(), &[12, 11, 10]);
+    gives(&rt, graph.edge_weights().rev().copied(), &[102, 101, 100]);
+    let mut edges = graph.edge_references();
+    same(&rt, edges.next_back().map(line), Some(LINES[2]));
+    same(&rt, edges.next().map(line), Some(LINES[0]));
+    same(&rt, edges.next_back().map(line), Some(LINES[1]));
+    holds(&rt, edges.next_back().is_none());
+}
+
+#[test]
 fn lists_of_a_graph_are_gone_through(rt: HostRuntime) {
     let edges = [(0, 1, 100), (0, 2, 101), (1, 2, 102), (0, 2, 103)];
     let graph = graph_of(&rt, rt.alloc(), &[10, 11, 12], &edges);

@@ -27,8 +27,8 @@ fn two_nodes_are_written_in_either_order(rt: HostRuntime) {
 fn two_edges_of_a_graph_are_written(rt: HostRuntime) {
     let mut graph = graph_of(&rt, rt.alloc(), &[5], &[(0, 0, 1), (0, 0, 2)]);
     let (d, e) = (EdgeIndex::new(0), EdgeIndex::new(1));
-    holds(&rt, graph.contains_edge(d));
-    holds(&rt, graph.contains_edge(e));
+    holds(&rt, graph.contains_edge_index(d));
+    holds(&rt, graph.contains_edge_index(e));
     graph.update_two_edges(e, d, |x, y| *x = mem::replace(y, 9));
     shape(&rt, &graph, &[5], &[(0, 0, 9), (0, 0, 1)]);
 }
@@ -38,7 +38,7 @@ fn a_node_and_an_edge_of_a_graph_are_swapped(rt: HostRuntime) {
     let mut graph = graph_of(&rt, rt.alloc(), &[5], &[(0, 0, 9), (0, 0, 1)]);
     let (n, e) = (NodeIndex::new(0), EdgeIndex::new(1));
     holds(&rt, graph.contains_node(n));
-    holds(&rt, graph.contains_edge(e));
+    holds(&rt, graph.contains_edge_index(e));
     graph.update_node_and_edge(n, e, |x, y| mem::swap(x, y));
     shape(&rt, &graph, &[1], &[(0, 0, 9), (0, 0, 5)]);
 }

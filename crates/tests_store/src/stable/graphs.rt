@@ -2,8 +2,8 @@
 use super::support::{PlainGraph, first, graph_of, put_edge, put_node, shape, slots};
 use crate::support::{holds, made, same};
 use daggy_base::index::{Direction, EdgeIndex, NodeIndex};
+use daggy_base::read_store::ReadStore;
 use daggy_base::source::EdgeSource;
-use daggy_base::store::Store;
 use daggy_stable::stable_graph::StableDiGraph;
 use std::alloc::Global;
 use std::process::Abort;
@@ -48,7 +48,7 @@ fn weights_are_read_and_written_by_index(rt: HostRuntime) {
     holds(&rt, graph.contains_node(n));
     graph[n] = 7;
     same(&rt, graph[n], 7);
-    holds(&rt, graph.contains_edge(e));
+    holds(&rt, graph.contains_edge_index(e));
     graph[e] = 8;
     same(&rt, graph.replace_edge_weight(e, 9), 8);
     shape(&rt, &graph, &[(0, 7), (1, 11)], &[(0, 0, 1, 9)]);
@@ -60,7 +60,7 @@ fn lists_go_from_edge_to_edge(rt: HostRuntime) {
     let (a, b) = (NodeIndex::new(0), NodeIndex::new(1));
     let newest = EdgeIndex::new(1);
     first(&rt, &graph, 1, Direction::Incoming, newest);
-    holds(&rt, graph.contains_edge(newest));
+    holds(&rt, graph.contains_edge_index(newest));
     same(
         &rt,
         graph.next_edge(newest, Direction::Outgoing),
@@ -68,19 +68,20 @@ fn lists_go_from_edge_to_edge(rt: HostRuntime) {
     );
     same(&rt, graph.find_edge(a, b), Some(newest));
     same(&rt, graph.find_edge(b, a), None);
+    holds(&rt, graph.contains_edge(a, b) && !graph.contains_edge(b, a));
     same(&rt, EdgeSource::node_bound(&graph), 2);
-    same(&rt, Store::edge_slots(&graph), 2);
+    same(&rt, ReadStore::edge_slots(&graph), 2);
 }
 
 #[test]
 fn adding_is_taken_back(rt: HostRuntime) {
     let mut graph = graph_of(&rt, rt.alloc(), &[10], &[(0, 0, 100), (0, 0, 101)]);
     let (older, newer) = (EdgeIndex::new(0), EdgeIndex::new(1));
-    holds(&rt, graph.contains_edge(newer));
+    holds(&rt, graph.contains_edge_index(newer));
     holds(&rt, newer.index() + 1 == graph.edge_slots());
     same(&rt, graph.take_back_edge(newer, true), 101);
     slots(&rt, &graph, 1, 1);
-    holds(&rt, graph.contains_edge(older));
+    holds(&rt, graph.contains_edge_index(older));
     same(&rt, graph.take_back_edge(older, false), 100);
     slots(&rt, &graph, 1, 1);
     shape(&rt, &graph, &[(0, 10)], &[]);

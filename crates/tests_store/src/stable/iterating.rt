@@ -63,6 +63,16 @@ fn vacant_nodes_are_passed_over(rt: HostRuntime) {
 }
 
 #[test]
+fn vacant_nodes_are_passed_over_from_the_back(rt: HostRuntime) {
+    let graph = gappy(&rt, rt.alloc());
+    gives(&rt, graph.node_identifiers().rev().map(index), &[4, 3, 1]);
+    let mut edges = graph.edge_references();
+    same(&rt, edges.next_back().map(line), Some((3, 1, 3, 103)));
+    same(&rt, edges.next_back().map(line), Some((1, 1, 4, 101)));
+    holds(&rt, edges.next_back().is_none());
+}
+
+#[test]
 fn vacant_edges_are_passed_over(rt: HostRuntime) {
     let graph = gappy(&rt, rt.alloc());
     gives(&rt, graph.edge_weights().copied(), &[101, 103]);

@@ -1,8 +1,8 @@
 use Rattle.std.proofs.Common.{◌≡◌, ◌∙◌, rules}
 use Rattle.daggy_base.specs.Graph.{edge_at}
 use Rattle.daggy_dot.specs.Picture.{line_of_edge, edge_line, goes}
-use Rattle.daggy_dot.proofs.Edges.{no_ends, no_weight, edge_of}
-use Rattle.daggy_dot.proofs.Lines.{line_written, no_line}
+use Rattle.daggy_formats.proofs.Edges.{no_ends, no_weight, edge_of}
+use Rattle.daggy_formats.proofs.Lines.{line_written, no_line}
 use Rattle.daggy_dot.proofs.picture.Dot.write_edges.Goals.{in-Some+in-Some-edge_weight+in_ok-write_edge, in-Some+in_default-edge_weight, in_default}
 use Rattle.daggy_dot.proofs.picture.Dot.write_edges.Goals as goal
 

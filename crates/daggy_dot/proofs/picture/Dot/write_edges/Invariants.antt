@@ -1,6 +1,7 @@
 use Rattle.std.specs.Prelude.{IfSome}
 use Rattle.std.specs.Fmt.{IsPlainFormatter, HasWritten}
-use Rattle.daggy_dot.specs.Picture.{line_of_edge, lines_of}
+use Rattle.daggy_formats.specs.Lines.{lines_of}
+use Rattle.daggy_dot.specs.Picture.{line_of_edge}
 use Rattle.daggy_dot.proofs.picture.Dot.write_edges.Given as goal
 
 abbrev pub invariant-edges : goal.invariant-edges

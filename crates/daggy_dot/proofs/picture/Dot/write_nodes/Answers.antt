@@ -1,7 +1,7 @@
 use Rattle.std.proofs.Common.{◌≡◌, ◌∙◌, rules}
 use Rattle.daggy_base.specs.Graph.{node_weight}
 use Rattle.daggy_dot.specs.Picture.{line_of_node, node_line, is_on}
-use Rattle.daggy_dot.proofs.Lines.{line_written, no_line}
+use Rattle.daggy_formats.proofs.Lines.{line_written, no_line}
 use Rattle.daggy_dot.proofs.picture.Dot.write_nodes.Goals.{in-Some+in_ok-write_node, in_default}
 use Rattle.daggy_dot.proofs.picture.Dot.write_nodes.Goals as goal
 

@@ -1,6 +1,7 @@
 use Rattle.std.specs.Prelude.{IfSome}
 use Rattle.std.specs.Fmt.{IsPlainFormatter, HasWritten}
-use Rattle.daggy_dot.specs.Picture.{line_of_node, lines_of}
+use Rattle.daggy_formats.specs.Lines.{lines_of}
+use Rattle.daggy_dot.specs.Picture.{line_of_node}
 use Rattle.daggy_dot.proofs.picture.Dot.write_nodes.Given as goal
 
 abbrev pub invariant-nodes : goal.invariant-nodes

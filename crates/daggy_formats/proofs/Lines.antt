@@ -7,7 +7,7 @@ use Rattle.std.specs.declared.fmt.Error.{Error}
 use Rattle.std.specs.declared.fmt.Formatter.{Formatter}
 use Rattle.std.specs.Fmt.{HasWritten, DisplaysOnOk, ◌++?◌}
 use Rattle.daggy_base.specs.Graph.{slot}
-use Rattle.daggy_dot.specs.Picture.{line_of, lines_of}
+use Rattle.daggy_formats.specs.Lines.{line_of, lines_of}
 
 append_nothing : (o : Option (List ℕ)) → o ≡ o ++? Some []
 append_nothing None = refl

@@ -1,0 +1,28 @@
+use Rattle.std.proofs.Common.{◌≡◌, ◌∙◌, refl, rules, ℕ, List, Option}
+use Rattle.daggy_base.specs.Graph.{Edge, edge_at}
+use Rattle.daggy_formats.proofs.Edges.{no_ends, no_weight, edge_of}
+use Rattle.daggy_formats.proofs.Lines.{line_written, no_line}
+use Rattle.daggy_formats.proofs.document.Document.write_edges.Goals.{in-Some+in-Some-edge_weight+in_ok-write_edge, in-Some+in_default-edge_weight, in_default}
+use Rattle.daggy_formats.proofs.document.Document.write_edges.Goals as goal
+
+pub edges-preserved : goal.edges-preserved
+edges-preserved g c plain =
+    let took = g.W.Write.write_str_gives in
+    let number = g.Ix.IndexType.number in
+    let edges = c.args.self.now.edges in
+    let line : ℕ → Edge _ → Option (List ℕ) = λ e x. g.F.Format.edge_line x.parent x.child (g.E.Display.output x.weight) in
+    let at : edge_at (g.S.EdgeSource.graph c.self.inside.graph.now) (number c.new-e.result)
+    ≡ edge_at c.args.self.now c.edges.x =
+    λ i. edge_at (c.self.view_is i) (c.new-e.ensures.number i) in
+    elim c.match-edge_endpoints.branch [
+      | in-Some+in-Some-edge_weight+in_ok-write_edge w ↦
+          let (a, b) = w.in-Some.ends in
+          let weight = w.in-Some-edge_weight.weight.now in
+          line_written took line edges c.edges.x _ _ _ w.write_edge.result
+          (record { parent = number a; child = number b; weight = weight }) _
+          (edge_of _ _ _ _ w.in-Some.ensures w.in-Some-edge_weight.ensures ∙ at)
+          refl (c.edges.invariant plain) (search rules) (search rules)
+      | in-Some+in_default-edge_weight w ↦
+          no_line took line edges c.edges.x _ _ (no_weight _ w.in_default-edge_weight.ensures ∙ at) (search rules)
+      | in_default w ↦ no_line took line edges c.edges.x _ _ (no_ends _ w.in_default.ensures ∙ at) (search rules)
+    ]

@@ -1,0 +1,3 @@
+pub mod Document
+pub mod Escapes
+pub mod Lines

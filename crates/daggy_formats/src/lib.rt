@@ -1,0 +1,10 @@
+//! Graphs in the formats of other programs.
+#![tactic(auto)]
+
+mod document;
+mod escaper;
+mod formats;
+
+pub use document::{Document, edge_table, graphml, mermaid, node_table};
+pub use escaper::{Escape, write_escaped};
+pub use formats::{EdgeTable, Format, GraphMl, Mermaid, NodeTable};
