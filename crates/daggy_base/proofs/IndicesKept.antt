@@ -9,10 +9,10 @@ use Rattle.daggy_base.specs.declared.index.Direction.{Direction}
 use Rattle.daggy_base.specs.declared.index.Direction.TheVariants.{Outgoing, Incoming}
 use Rattle.daggy_base.proofs.PathsWithoutEdge.{slot_put}
 
-keeps_itself : {N E : Type 0} (g : Graph N E) → KeepsIndices g g
+pub keeps_itself : {N E : Type 0} (g : Graph N E) → KeepsIndices g g
 keeps_itself g = record { nodes = λ n w h. h; edges = λ e x h. h }
 
-keeps_on : {N E : Type 0} (a b c : Graph N E) → KeepsIndices a b → KeepsIndices b c → KeepsIndices a c
+pub keeps_on : {N E : Type 0} (a b c : Graph N E) → KeepsIndices a b → KeepsIndices b c → KeepsIndices a c
 keeps_on a b c p q = record {
   nodes = λ n w h. p.nodes n w (q.nodes n w h);
   edges = λ e x h. p.edges e x (q.edges e x h);

@@ -27,3 +27,4 @@ pub mod Orders
 pub mod ItemsInTurn
 pub mod Flags
 pub mod EdgeEnds
+pub mod JoinedByEdge

@@ -46,25 +46,36 @@ pub enum Command<N, E, Ix: IndexType = DefaultIx> {
 /// The reply to a command.
 #[derive(Debug, Drop, PartialEq)]
 pub enum Reply<N, E, Ix: IndexType = DefaultIx> {
-    /// The node that was added.
+    /// The node that [`Command::Node`](crate::command::Command::Node) added.
     Node(NodeIndex<Ix>),
-    /// The edge that was added, or whose weight was written.
+    /// The edge that [`Command::Edge`](crate::command::Command::Edge) added, or that
+    /// [`Command::Update`](crate::command::Command::Update) added or gave another weight.
     Edge(EdgeIndex<Ix>),
-    /// The edge and the node that were added.
+    /// The edge and the node that [`Command::Child`](crate::command::Command::Child) or
+    /// [`Command::Parent`](crate::command::Command::Parent) added.
     EdgeNode(EdgeIndex<Ix>, NodeIndex<Ix>),
-    /// The edges that were added, in the order in which they were given.
+    /// The edges that [`Command::Edges`](crate::command::Command::Edges) added, in the order in
+    /// which they were given.
     Edges(Vec<EdgeIndex<Ix>>),
-    /// The edge that was found.
+    /// The edge that [`Command::Find`](crate::command::Command::Find) found, or `None` if there is
+    /// none.
     Found(Option<EdgeIndex<Ix>>),
-    /// The parent and the child of an edge that exists.
+    /// The parent and the child of the edge of [`Command::Ends`](crate::command::Command::Ends), or
+    /// `None` if there is no such edge.
     Ends(Option<(NodeIndex<Ix>, NodeIndex<Ix>)>),
-    /// The weight of the node that was removed.
+    /// The weight of the node that [`Command::RemoveNode`](crate::command::Command::RemoveNode)
+    /// removed, or `None` if there was no such node.
     NodeGone(Option<N>),
-    /// The weight of the edge that was removed.
+    /// The weight of the edge that [`Command::RemoveEdge`](crate::command::Command::RemoveEdge)
+    /// removed, or `None` if there was no such edge.
     EdgeGone(Option<E>),
-    /// Edges with their children, or with their parents, newest edge first.
+    /// The edges of [`Command::Children`](crate::command::Command::Children) with the children, or
+    /// those of [`Command::Parents`](crate::command::Command::Parents) with the parents, newest
+    /// edge first.
     Walk(Vec<Neighbor<Ix>>),
-    /// It is done.
+    /// [`Command::ClearEdges`](crate::command::Command::ClearEdges),
+    /// [`Command::Clear`](crate::command::Command::Clear) or
+    /// [`Command::Reduce`](crate::command::Command::Reduce) was carried out.
     Done,
     /// A node that the command adds an edge to does not exist. Nothing has changed.
     Missing(Back<N, E>),
@@ -75,22 +86,22 @@ pub enum Reply<N, E, Ix: IndexType = DefaultIx> {
     /// All these edges together would close a cycle. Nothing has changed. The weights are in
     /// reverse order.
     CycleAll(Vec<E>),
-    /// Out of memory. Nothing has changed.
+    /// An allocation failed. Nothing has changed.
     Memory(Back<N, E>),
 }
 
-/// The weights returned by a failed command.
+/// The weights of a command that failed, returned to the caller.
 #[derive(Debug, Drop, PartialEq)]
 pub enum Back<N, E> {
-    /// None.
+    /// No weight: the command took none.
     Nothing,
-    /// The node's.
+    /// The weight of the node.
     Node(N),
-    /// The edge's.
+    /// The weight of the edge.
     Edge(E),
-    /// The edge's and the node's.
+    /// The weight of the edge and that of the node.
     EdgeNode(E, N),
-    /// Those of a batch of edges, up to the offending one.
+    /// The weights of a batch of edges, up to the offending one.
     Edges {
         /// The weight of the offending edge.
         last: E,

@@ -1,13 +1,14 @@
-//! Lists of edges, and lists of nodes and edges, that graphs are made from.
+//! Items from which graphs are built: edges alone, or nodes and edges.
 ghost use Rattle.std.specs.Prelude.{◌≡◌};
 
 use crate::index::NodeIndex;
 
-/// What an edge can be made of: its endpoints, with or without a weight.
+/// Conversion into an edge: from its source, its target and its weight, or from the first two
+/// alone.
 ///
 /// A pair of nodes is an edge with the default weight.
 pub trait IntoWeightedEdge<E> {
-    /// What names a node.
+    /// The type of the two ends: `NodeIndex<Ix>` wherever a dag takes edges.
     type NodeId;
 
     // The edge that it may become.

@@ -2,14 +2,15 @@
 use Rattle.std.proofs.Common.{◌≡◌, ◌≢◌, ℕ, ◌+◌, ◌<◌, ◌≤◌, not, eqb, inl, inr, List, [], ◌∷◌, ◌++◌, take, drop}
 use Rattle.std.proofs.Common.{refl, sym, ap, subst, ◌∙◌, arith}
 use Rattle.std.specs.List.{filter}
-use Rattle.std.proofs.lemmas.Bool.{cases_eq, eq-eqb}
+use Rattle.std.proofs.lemmas.Bool.{cases_eq, cases_lt, cases_Bool, eq-eqb}
 use Rattle.daggy_base.specs.Graph.{Graph, HasNode}
 use Rattle.daggy_base.specs.Ordered.{IsOrderOf, IsParted, place, stretch}
 use Rattle.daggy_base.specs.Path.{Reaches}
 use Rattle.daggy_base.specs.Removal.{without}
-use Rattle.daggy_base.proofs.Lists.{Mem, contains_mem, split_at}
-use Rattle.daggy_base.proofs.ListParts.{filter_yes, filter_no, is_held}
-use Rattle.daggy_base.proofs.Sorted.{mem_filter, place_same, place_other, same_place}
+use Rattle.daggy_base.proofs.Lists.{Mem, Unique, contains_mem, mem_contains, split_at, unique_from_distinct}
+use Rattle.daggy_base.proofs.ListParts.{filter_yes, filter_no, is_held, in_stretch, split_three}
+use Rattle.daggy_base.proofs.PathsWithEdge.{reaches_itself}
+use Rattle.daggy_base.proofs.Sorted.{mem_filter, place_same, place_other, place_at, same_place, parts_before}
 
 -- where only what stands from b on changes
 early_stays : (order : List ℕ) (b u : ℕ) (rest : List ℕ)
@@ -51,6 +52,39 @@ kept_parted g a b u old new p h =
     let rest = filter (λ n. not (p.test n)) part ++ (filter p.test part ++ drop (place old a + 1) old) in
     let P : List ℕ → Type 0 = λ z. place z u < place z b in
     subst P (sym p.is) (omega (arith, early_stays old b u rest h, late_stays old b rest))
+
+-- what does not precede b then, and did not follow a before, is reached from b
+pub reached_behind : {N E : Type 0} (g : Graph N E) (a b u : ℕ) (old new : List ℕ) → IsOrderOf g old
+    → HasNode g b → HasNode g u → IsParted g a b old new → place old b ≤ place old a → place old u ≤ place old a
+    → place new b ≤ place new u → Reaches g b u
+reached_behind g a b u old new ord has_b has_u p window within late =
+    let low = place old b in
+    let high = place old a + 1 in
+    let part = stretch old low high in
+    let held : (n : ℕ) → HasNode g n → Mem n old = λ n h. contains_mem old n ((ord.exact n).1 h) in
+    let inside : (n : ℕ) → HasNode g n → low ≤ place old n → place old n ≤ place old a → Mem n part = λ n h above below.
+    let at = place_at old n (held n h) in
+    let P : ℕ → Type 0 = λ z. Mem z part in
+    subst P at.1 (in_stretch old low high (place old n) above (omega (arith, below)) at.0) in
+    elim (cases_lt (place old u) low) [
+      | inl early ↦ absurd (omega (arith, kept_parted g a b u old new p early, late))
+      | inr after ↦ (
+          let u_in = inside u has_u after within in
+          let b_in = inside b has_b (omega arith) window in
+          elim (cases_Bool (p.test u)) [
+            | inl t ↦ (p.exact u (mem_contains part u u_in)).0 t
+            | inr f ↦ (
+                let U : List ℕ → Type 0 = λ z. Unique z in
+                let once = subst U (split_three old low high (omega (arith, window))) (unique_from_distinct old ord.once) in
+                let first =
+                parts_before p.test (take low old) part (drop high old) once u b u_in b_in (ap not f)
+                ((p.exact b (mem_contains part b b_in)).1 (reaches_itself g b has_b)) in
+                let Q : List ℕ → Type 0 = λ z. place z u < place z b in
+                absurd (omega (arith, subst Q (sym p.is) first, late))
+                )
+          ]
+          )
+    ]
 
 -- where another node is taken out
 kept_without : (order : List ℕ) (a b u : ℕ) → u ≢ a → b ≢ a

@@ -1,19 +1,18 @@
 -- A node that is asked for its parents, one by one.
-use Rattle.std.proofs.Common.{◌≡◌, ◌≢◌, ℕ, suc, ◌<◌, ◌≤◌, inl, inr, Some, None, List, [], ◌∷◌, length}
+use Rattle.std.proofs.Common.{◌≡◌, ℕ, suc, ◌<◌, ◌≤◌, inl, inr, Some, None, List, [], ◌∷◌, length}
 use Rattle.std.proofs.Common.{get_or, drop, refl, sym, subst, ap, ◌∙◌, arith}
 use Rattle.std.proofs.lemmas.Bool.{cases_lt}
 use Rattle.std.proofs.lemmas.Option.{same_Some}
 use Rattle.daggy_base.specs.declared.index.Direction.TheVariants.{Incoming}
 use Rattle.daggy_base.specs.Graph.{Graph, Edge, in_list, edge_at}
 use Rattle.daggy_base.specs.Cursor.{IsWalkStep, first_of, after, cursor_after}
-use Rattle.daggy_base.specs.Path.{AreJoined, Reaches}
+use Rattle.daggy_base.specs.Path.{AreJoined}
 use Rattle.daggy_base.specs.WellFormed.{IsWellFormed}
 use Rattle.daggy_base.proofs.Lists.{Mem, mem_at, place_of, contains_mem, mem_contains, unique_from_distinct, first_at}
 use Rattle.daggy_base.proofs.Lists.{first_past, after_at}
 use Rattle.daggy_base.proofs.OutEdgesRead.{edge_below}
-use Rattle.daggy_search.proofs.SearchProgress.{reaches_stays}
 use Rattle.daggy_visit.proofs.WalkedEdges.{one_step}
-use Rattle.daggy_base.specs.Ordered.{IsOrderOf, place}
+use Rattle.daggy_base.specs.Ordered.{place}
 
 -- the parents before the cursor all stand before b
 pub record Asked {N E : Type 0} (end : ℕ) (g : Graph N E) (order : List ℕ) (a b cursor : ℕ) : Type 0 where
@@ -97,14 +96,3 @@ no_parent {N} {E} {end} {g} f n is u j =
     at_end : (xs : List ℕ) → Mem j.0 xs → first_of end xs ≡ end → Mem end xs
     at_end [] h e = absurd h
     at_end (x ∷ xs) h e = inl (sym e)
-
--- a node is not reached from where all its parents stand before
-pub not_reached : {N E : Type 0} (g : Graph N E) (order : List ℕ) (a b : ℕ) → IsOrderOf g order → b ≢ a
-    → ((u : ℕ) → AreJoined g u a → place order u < place order b) → Reaches g b a → ⊥
-not_reached {N} {E} g order a b ord differs parents r =
-    let P : ℕ → Type 0 = λ z. (z ≢ a) × (place order b ≤ place order z) in
-    let closed : (u v : ℕ) → P u → AreJoined g u v → P v = λ u v h j. (
-      λ e. (let Q : ℕ → Type 0 = λ z. AreJoined g u z in absurd (omega (arith, h.1, parents u (subst Q e j)))),
-      omega (arith, h.1, ord.sorted u v j),
-    ) in
-    (reaches_stays g P closed b a r (differs, omega arith)).0 refl

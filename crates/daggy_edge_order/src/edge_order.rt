@@ -5,14 +5,14 @@ ghost use Rattle.daggy_base.specs.Path.{AreJoined, Reaches};
 ghost use Rattle.daggy_base.specs.Ordered.{IsOrderOf, place};
 
 use daggy_base::index::{Direction, EdgeIndex, IndexType, NodeIndex};
-use daggy_base::store::Store;
+use daggy_base::read_store::ReadStore;
 use daggy_order::order::{Order, order_edge};
 use daggy_search::Scratch;
 use daggy_visit::walk::step;
 
 // Whether an edge leads to a node.
 #[inline]
-fn has_parents<Ix: IndexType, S: Store<Ix>>(store: &S, n: NodeIndex<Ix>) -> bool
+fn has_parents<Ix: IndexType, S: ReadStore<Ix>>(store: &S, n: NodeIndex<Ix>) -> bool
     ensures { result ≡ false → (u : ℕ) → ¬ AreJoined (S.graph store.now) u (Ix.number n) }
 {
     store.invariant();
@@ -23,7 +23,7 @@ fn has_parents<Ix: IndexType, S: Store<Ix>>(store: &S, n: NodeIndex<Ix>) -> bool
 const FEW_PARENTS: usize = 4;
 
 // Whether all parents of `a` precede `b`. If there are `FEW_PARENTS` or more, the answer is false.
-fn parents_stand_before<Ix: IndexType, S: Store<Ix>>(
+fn parents_stand_before<Ix: IndexType, S: ReadStore<Ix>>(
     store: &S,
     order: &Order<Ix>,
     a: NodeIndex<Ix>,
@@ -47,13 +47,51 @@ fn parents_stand_before<Ix: IndexType, S: Store<Ix>>(
     false
 }
 
-/// Updates the order for a new edge from `a` to `b`. Returns false if a path leads from `b` to `a`.
+/// Updates the order for a new edge from `a` to `b` if that needs no search. Returns false, with the
+/// order unchanged, if it may need one.
 ///
 /// If no edge leads to `a` it is moved to the front, and if its few parents all precede `b` it is
-/// moved right before `b`, without a search. So nodes that are added after their children, as when
-/// each one depends on older ones, need no search.
+/// moved right before `b`. So nodes that are added after their children, as when each one depends
+/// on older ones, need no search.
 #[inline]
-pub fn order_new_edge<Ix: IndexType, S: Store<Ix>>(
+pub fn order_without_search<Ix: IndexType, S: ReadStore<Ix>>(
+    store: &S,
+    order: &mut Order<Ix>,
+    a: NodeIndex<Ix>,
+    b: NodeIndex<Ix>,
+) -> bool
+    requires parent { HasNode (S.graph store.now) (Ix.number a) }
+    requires child { HasNode (S.graph store.now) (Ix.number b) }
+    requires ordered { IsOrderOf (S.graph store.now) order.old }
+    ensures ordered { IsOrderOf (S.graph store.now) order.new }
+    ensures before { result ≡ true → place order.new (Ix.number a) < place order.new (Ix.number b) }
+    ensures kept_before { (u : ℕ) → place order.old u < place order.old (Ix.number b)
+        → place order.new u < place order.new (Ix.number b) }
+    ensures unchanged { result ≡ false → order.new ≡ order.old }
+    ensures behind { result ≡ false
+        → place order.old (Ix.number b) ≤ place order.old (Ix.number a) }
+{
+    store.invariant();
+    if order.stands_before(a, b) {
+        return true;
+    }
+    if a.index() != b.index() {
+        if !has_parents(store, a) {
+            order.move_first(a);
+            return true;
+        }
+        if parents_stand_before(store, order, a, b) {
+            order.move_before(a, b);
+            return true;
+        }
+    }
+    false
+}
+
+/// Updates the order for a new edge from `a` to `b`. Returns false if a path leads from `b` to `a`.
+/// It searches only if [`order_without_search`] returns false.
+#[inline]
+pub fn order_new_edge<Ix: IndexType, S: ReadStore<Ix>>(
     store: &mut S,
     order: &mut Order<Ix>,
     scratch: &mut Scratch<Ix>,
@@ -78,18 +116,8 @@ pub fn order_new_edge<Ix: IndexType, S: Store<Ix>>(
     ensures same_capacity { scratch.new ≡ scratch.old }
 {
     store.invariant();
-    if order.stands_before(a, b) {
+    if order_without_search(store, order, a, b) {
         return true;
-    }
-    if a.index() != b.index() {
-        if !has_parents(store, a) {
-            order.move_first(a);
-            return true;
-        }
-        if parents_stand_before(store, order, a, b) {
-            order.move_before(a, b);
-            return true;
-        }
     }
     order_edge(store, order, a, b, scratch)
 }

@@ -1,10 +1,10 @@
 -- What an iterator still has to yield, before and after a step.
-use Rattle.std.proofs.Common.{◌≡◌, ◌<◌, ℕ, zero, suc, List, [], ◌∷◌, map, length, Option, slice_get, refl, sym, ap}
+use Rattle.std.proofs.Common.{◌≡◌, ◌<◌, ℕ, zero, suc, ◌+◌, ◌-◌, List, [], ◌∷◌, ◌++◌, map, length, Option, Some, slice_get, refl, sym, ap}
 use Rattle.std.proofs.Common.{subst, ◌∙◌, inl, inr, arith}
 use Rattle.std.proofs.lemmas.List.{length-map}
 use Rattle.std.proofs.lemmas.Option.{slice_get_within}
 use Rattle.std.proofs.lemmas.Bool.{cases_lt}
-use Rattle.std.specs.List.{filter_map, find}
+use Rattle.std.specs.List.{filter_map, find, range_with_len}
 use Rattle.std.specs.Option.{option_map}
 use Rattle.daggy_base.specs.declared.index.Direction.{Direction}
 use Rattle.daggy_base.specs.declared.index.Direction.TheVariants.{Outgoing, Incoming}
@@ -13,7 +13,7 @@ use Rattle.daggy_base.specs.Finding.{leads_to, find_edge}
 use Rattle.daggy_base.specs.Graph.{slot, list_at}
 use Rattle.daggy_cells.specs.declared.cell.Node.{Node}
 use Rattle.daggy_cells.specs.declared.cell.Edge.{Edge}
-use Rattle.daggy_base.specs.Iterating.{edges_at}
+use Rattle.daggy_base.specs.Iterating.{edges_at, numbered}
 use Rattle.daggy_cells.specs.Links.{nth_list, IsLinkedList}
 use Rattle.daggy_cells.specs.Raw.{raw_next}
 use Rattle.daggy_cells.specs.Rest.{edges_left, IsOnList}
@@ -110,3 +110,23 @@ found_to end nodes edges s n v e is =
       length-map edges (end_at Outgoing),
     )))
     ∙ ap (find (leads_to g v)) (list_is nodes edges Outgoing n)
+
+-- a step from the back
+
+range_suc : (a n : ℕ) → range_with_len a (suc n) ≡ range_with_len a n ++ (a + n) ∷ []
+range_suc a zero = ap (λ z. z ∷ []) (omega arith)
+range_suc a (suc n) =
+    ap (λ l. a ∷ l) (range_suc (a + 1) n ∙ ap (λ z. range_with_len (a + 1) n ++ z ∷ []) (omega arith))
+
+pub range_back : (a e less last : ℕ) → a < e → less ≡ e - 1 → last ≡ e - 1
+    → range_with_len a (e - a) ≡ range_with_len a (less - a) ++ last ∷ []
+range_back a e less last within is at =
+    let longer : e - a ≡ suc (less - a) = omega arith in
+    ap (range_with_len a) longer ∙ range_suc a (less - a)
+    ∙ ap (λ z. range_with_len a (less - a) ++ z ∷ []) (omega arith)
+
+pub numbered_back : {A B : Type 0} (f : A → B) (i : ℕ) (xs : List A) (x : A) (last : ℕ) → last ≡ i + length xs
+    → numbered i (map (λ y. Some (f y)) (xs ++ x ∷ []))
+    ≡ numbered i (map (λ y. Some (f y)) xs) ++ (last, f x) ∷ []
+numbered_back f i [] x last at = ap (λ z. (z, f x) ∷ []) (omega arith)
+numbered_back f i (y ∷ ys) x last at = ap (λ l. (i, f y) ∷ l) (numbered_back f (i + 1) ys x last (omega arith))

@@ -8,6 +8,7 @@ ghost use Rattle.daggy_base.specs.Adding.{next_node, next_edge as next_edge_of, 
 ghost use Rattle.daggy_base.specs.Adding.{with_edge};
 ghost use Rattle.daggy_base.specs.Finding.{find_edge as edge_between};
 ghost use Rattle.daggy_base.specs.Cursor.{first_of, cursor_after};
+ghost use Rattle.daggy_base.specs.Path.{AreJoined};
 ghost use Rattle.daggy_base.specs.State.{with_graph};
 ghost use Rattle.daggy_base.specs.declared.error.NodeError.TheVariants.{Memory as NodeMemory};
 ghost use Rattle.daggy_base.specs.declared.error.EdgeError.TheVariants.{Memory as EdgeMemory};
@@ -50,6 +51,20 @@ use std::marker::Model;
 /// node or edge into the freed index. All operations are O(1) unless stated otherwise.
 ///
 /// `Ix` is the integer type of the indices. It limits the number of nodes and the number of edges.
+///
+/// # Examples
+///
+/// ```
+/// let mut graph: DiGraph<&'static str, u32> = DiGraph::new(rt.alloc());
+/// let egg = graph.add_node("egg")?;
+/// let hen = graph.add_node("hen")?;
+/// let _ = graph.add_edge(egg, hen, 21)?;
+/// // A store may hold cycles.
+/// let back = graph.add_edge(hen, egg, 1)?;
+/// assert!(rt; graph.neighbors(egg).next() == Some(hen));
+/// assert!(rt; graph.remove_edge(back) == Some(1));
+/// assert!(rt; graph.neighbors(hen).next().is_none());
+/// ```
 #[derive(Drop)]
 pub struct DiGraph<N, E, Ix: IndexType = DefaultIx> {
     nodes: Vec<Node<N, Ix>>,
@@ -92,13 +107,17 @@ impl<N, E, Ix: IndexType> DiGraph<N, E, Ix> {
 
     /// Whether the edge exists.
     #[inline]
-    pub fn contains_edge(&self, e: EdgeIndex<Ix>) -> bool
+    pub fn contains_edge_index(&self, e: EdgeIndex<Ix>) -> bool
         ensures { IsTrue result ↔ HasEdge self.now.graph (Ix.number e) }
     {
         e.index() < self.edges.len()
     }
 
     /// Adds a node. Its index is the previous node count.
+    ///
+    /// # Requires
+    ///
+    /// - The index type has an index left for one more node. Test: `can_add_node()`.
     ///
     /// # Errors
     ///
@@ -125,6 +144,12 @@ impl<N, E, Ix: IndexType> DiGraph<N, E, Ix> {
 
     /// Adds an edge from `a` to `b`. Its index is the previous edge count, and it is first in the
     /// lists of `a` and of `b`.
+    ///
+    /// # Requires
+    ///
+    /// - `parent`: `a` is a node of the graph. Test: `contains_node(a)`.
+    /// - `child`: `b` is a node of the graph. Test: `contains_node(b)`.
+    /// - `index_left`: The index type has an index left for one more edge. Test: `can_add_edge()`.
     ///
     /// # Errors
     ///
@@ -188,6 +213,10 @@ impl<N, E, Ix: IndexType> DiGraph<N, E, Ix> {
 
     /// The edge after this one in the out list of its parent, or in the in list of its child, or
     /// `end` if it is the last.
+    ///
+    /// # Requires
+    ///
+    /// - `e` is an edge of the graph. Test: `contains_edge_index(e)`.
     #[inline]
     pub fn next_edge(&self, e: EdgeIndex<Ix>, dir: Direction) -> EdgeIndex<Ix>
         requires { HasEdge self.now.graph (Ix.number e) }
@@ -211,5 +240,17 @@ impl<N, E, Ix: IndexType> DiGraph<N, E, Ix> {
         let first = self.first_edge(a, Direction::Outgoing);
         let e = find_to(&self.edges, Link::of_edge(first), b.index())?;
         Some(e.edge())
+    }
+
+    /// Whether an edge leads from `a` to `b`.
+    ///
+    /// # Complexity
+    ///
+    /// O(edges out of `a`).
+    pub fn contains_edge(&self, a: NodeIndex<Ix>, b: NodeIndex<Ix>) -> bool
+        ensures { IsTrue result ↔ AreJoined self.now.graph (Ix.number a) (Ix.number b) }
+    {
+        let _well_formed = self.edge_count();
+        self.find_edge(a, b).is_some()
     }
 }

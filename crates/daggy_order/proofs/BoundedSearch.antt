@@ -2,9 +2,12 @@
 use Rattle.std.proofs.Common.{◌≡◌, ◌≢◌, ℕ, ◌+◌, ◌<◌, ◌≤◌, Bool, true, false, ◌↔◌, inl, inr, List, [], ◌∷◌, ◌++◌, length}
 use Rattle.std.proofs.Common.{get_or, set, take, drop, refl, sym, ap, subst, ◌∙◌, arith}
 use Rattle.std.specs.List.{Contains}
+use Rattle.std.specs.List.Sorted.{IsPermutation}
 use Rattle.std.proofs.lemmas.Bool.{false≢true}
 use Rattle.std.proofs.lemmas.List.{length-set, length-take-le, take_more_set, drop_more, drop-append-le}
 use Rattle.std.proofs.lemmas.List.{get_or-take}
+use Rattle.std.proofs.lemmas.List.Sorted.{IsPermutation-sym, IsPermutation-trans, IsPermutation-append_left}
+use Rattle.std.proofs.lemmas.List.Sorted.{IsPermutation-to_front}
 use Rattle.daggy_base.specs.Graph.{Graph, HasNode, out_list}
 use Rattle.daggy_base.specs.Path.{AreJoined, Reaches}
 use Rattle.daggy_base.specs.Ordered.{edges_from}
@@ -16,9 +19,11 @@ use Rattle.daggy_base.proofs.Lists.{contains_mem}
 use Rattle.daggy_base.proofs.OutEdgesRead.{read_part}
 use Rattle.daggy_base.proofs.EdgesFrom.{edges_few, lists_length}
 use Rattle.daggy_base.proofs.PathEnds.{reached_exists}
-use Rattle.daggy_search.proofs.SearchProgress.{Met, reaches_stays, marked_within, set_marked}
+use Rattle.daggy_search.specs.Work.{Work}
+use Rattle.daggy_search.proofs.SearchProgress.{Going, Met, reaches_stays, marked_within, set_marked}
 use Rattle.daggy_search.proofs.SearchState.{Start, Reading, Searching, all_met_here, from_marked, only_reached}
 use Rattle.daggy_search.proofs.SearchState.{child_found}
+use Rattle.daggy_order.proofs.WaitingNodes.{members_in, once_in}
 
 -- the marked numbers, in a list
 pub record Finding (marks : List Bool) (found : List ℕ) (count : ℕ) : Type 0 where
@@ -228,3 +233,72 @@ module _ {N E : Type 0} {end : ℕ} {start : Start N E} {now : Reading N E} (w :
           let high : get_or positions n 0 < limit = r.1 in absurd (omega arith)
     ],
   )
+
+-- a node that is found, and the nodes found in any order
+pub finds_put : {marks : List Bool} {found : List ℕ} {count : ℕ} → Finding marks found count → length marks ≤ length found
+    → (v : ℕ) → v < length marks → get_or marks v false ≡ false → {k m : ℕ} → k ≡ v → m ≡ v
+    → {marks' : List Bool} → marks' ≡ set marks k true → {found' : List ℕ}
+    → IsPermutation (m ∷ take count found) (take (count + 1) found') → Finding marks' found' (count + 1)
+finds_put {marks} {found} {count} s capacity v low unseen {k} {m} is is' {marks'} marked {found'} perm =
+    let more = finds_more s capacity v low unseen k m is is' in
+    let was : take (count + 1) (set found count m) ≡ take count found ++ m ∷ [] =
+    take_more_set found count m (omega (arith, finds_room s capacity v low unseen, capacity)) in
+    let P : List ℕ → Type 0 = λ z. IsPermutation z (take (count + 1) found') in
+    let same : IsPermutation (take (count + 1) (set found count m)) (take (count + 1) found') =
+    subst P (sym was) (IsPermutation-trans (take count found ++ m ∷ []) (m ∷ take count found) (take (count + 1) found')
+    (IsPermutation-to_front (take count found) m) perm) in
+    let back = IsPermutation-sym (take (count + 1) (set found count m)) (take (count + 1) found') same in
+    let F : List Bool → Type 0 = λ z. Finding z found' (count + 1) in
+    subst F (sym marked) record {
+      once = once_in (take (count + 1) (set found count m)) (take (count + 1) found') same more.once;
+      exact = λ n. (
+        λ h. members_in (take (count + 1) (set found count m)) (take (count + 1) found') same n ((more.exact n).0 h),
+        λ h. (more.exact n).1 (members_in (take (count + 1) found') (take (count + 1) (set found count m)) back n h),
+      );
+      fits = more.fits;
+    }
+
+-- the nodes that wait, and those found, in any order
+pub rearranged : {N E : Type 0} {end : ℕ} {Keep Skip : ℕ → Type 0} {start : Start N E} {now : Reading N E}
+    → Searching end Keep Skip start now → {work : Work} → work ≡ record now.work { nodes = work.nodes }
+    → length work.nodes ≡ length now.work.nodes → {waiting : List ℕ} → IsPermutation now.waiting waiting
+    → Searching end Keep Skip start record now { work = work; waiting = waiting }
+rearranged {N} {E} {end} {Keep} {Skip} {start} {now} s {work} is long {waiting} perm =
+    let rest = s.going.at ∷ s.going.done in
+    let all : IsPermutation (now.waiting ++ rest) (waiting ++ rest) =
+    IsPermutation-append_left rest now.waiting waiting perm in
+    let into : (n : ℕ) → Mem n (now.waiting ++ rest) → Mem n (waiting ++ rest) =
+    members_in (now.waiting ++ rest) (waiting ++ rest) all in
+    let out : (n : ℕ) → Mem n (waiting ++ rest) → Mem n (now.waiting ++ rest) =
+    members_in (waiting ++ rest) (now.waiting ++ rest) (IsPermutation-sym (now.waiting ++ rest) (waiting ++ rest) all) in
+    let G : List Bool → Type 0 = λ z. Going end start.graph Keep Skip start.from z waiting now.edge s.looked in
+    let marks : work.entered ≡ now.work.entered = ap (λ (w : Work). w.entered) is in
+    record {
+      same = s.same;
+      sized = record {
+        size_is = ap (λ (w : Work). w.size) is ∙ s.sized.size_is;
+        entered_are = ap (λ (w : Work). length w.entered) is ∙ s.sized.entered_are;
+        marked_are = ap (λ (w : Work). length w.marked) is ∙ s.sized.marked_are;
+        nodes_are = long ∙ s.sized.nodes_are;
+        cursors_are = ap (λ (w : Work). length w.cursors) is ∙ s.sized.cursors_are;
+        small = s.sized.small;
+      };
+      fits = s.fits;
+      looked = s.looked;
+      counted = s.counted;
+      going = subst G (sym marks) record {
+        at = s.going.at;
+        passed = s.going.passed;
+        done = s.going.done;
+        cursor = s.going.cursor;
+        within = s.going.within;
+        once = once_in (now.waiting ++ rest) (waiting ++ rest) all s.going.once;
+        marked = λ n. (λ h. into n ((s.going.marked n).0 h), λ m. (s.going.marked n).1 (out n m));
+        reached = λ n m. s.going.reached n (out n m);
+        start = into start.from s.going.start;
+        kept = λ n m. s.going.kept n (out n m);
+        closed = s.going.closed;
+        half = s.going.half;
+        counted = s.going.counted;
+      };
+    }

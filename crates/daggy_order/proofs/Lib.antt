@@ -11,6 +11,7 @@ pub mod RunsWritten
 pub mod NodesSorted
 pub mod SortedByLabel
 pub mod OrderEdgeResult
+pub mod WaitingNodes
 pub mod BoundedSearch
 pub mod SortedListChanges
 pub mod OrderLaws

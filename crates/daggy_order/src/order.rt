@@ -19,16 +19,32 @@ mod reaching;
 mod search;
 mod sorting;
 
-pub use edge::order_edge;
+pub use edge::{order_edge, order_edge_counted};
 pub use nodes::Nodes;
 pub use path::path_in;
 pub use reaching::reaches_in;
 
-/// An ordered list of distinct nodes that can be added at both ends, removed and moved.
+/// An ordered list of distinct nodes that can be added at both ends, removed and moved. A dag keeps
+/// one of its own nodes; for searches of another graph [`sorted`](Order::sorted) makes one. Labels
+/// that ascend along the list show which of two nodes comes first, as in the order-maintenance list
+/// of Dietz and Sleator (1987).
 ///
 /// A trailing run of consecutive indices is stored as a range. The first change of any other kind
 /// links the nodes of the run, in memory reserved when they were pushed. Each node is linked at
 /// most once, so `push` stays amortized O(1).
+///
+/// # Examples
+///
+/// ```
+/// let mut order: Order = Order::new(rt.alloc());
+/// let sow = NodeIndex::new(0);
+/// let reap = NodeIndex::new(1);
+/// order.push(sow)?;
+/// order.push_first(reap)?;
+/// assert!(rt; order.stands_before(reap, sow));
+/// order.move_first(sow);
+/// assert!(rt; order.nodes().next() == Some(sow));
+/// ```
 #[derive(Drop)]
 pub struct Order<Ix: IndexType = DefaultIx> {
     list: LabeledList<Ix>,
@@ -73,7 +89,7 @@ impl<Ix: IndexType> Order<Ix> {
         self.list.len() + self.tail.count
     }
 
-    /// Whether it holds the node. O(1).
+    /// Whether the order contains the node.
     #[inline]
     pub fn holds(&self, n: NodeIndex<Ix>) -> bool
         ensures { IsTrue result ↔ Contains self.now (Ix.number n) }
@@ -86,7 +102,17 @@ impl<Ix: IndexType> Order<Ix> {
         }
     }
 
-    /// Whether one node precedes another. O(1).
+    /// Whether `a` comes before `b`. In a topological order a path from `a` to `b` can exist only
+    /// if it does.
+    ///
+    /// # Requires
+    ///
+    /// - `first`: The order contains `a`. Test: `holds(a)`.
+    /// - `second`: The order contains `b`. Test: `holds(b)`.
+    ///
+    /// # Complexity
+    ///
+    /// O(1).
     #[inline]
     pub fn stands_before(&self, a: NodeIndex<Ix>, b: NodeIndex<Ix>) -> bool
         requires first { Contains self.now (Ix.number a) }
@@ -102,7 +128,17 @@ impl<Ix: IndexType> Order<Ix> {
         }
     }
 
-    /// Puts a node last.
+    /// Appends a node that the order does not contain yet.
+    ///
+    /// # Requires
+    ///
+    /// - `real`: `n` is not `end`, the greatest value of the index type. Test:
+    ///   `n != NodeIndex::end()`.
+    /// - `absent`: The order does not contain `n` yet. Test: `!holds(n)`.
+    ///
+    /// # Errors
+    ///
+    /// Returns `AllocError` if an allocation fails; the order is unchanged.
     ///
     /// # Complexity
     ///
@@ -159,6 +195,10 @@ impl<Ix: IndexType> Order<Ix> {
     /// # Errors
     ///
     /// Returns `AllocError` if an allocation fails; the order is unchanged.
+    ///
+    /// # Complexity
+    ///
+    /// O(greatest index of a node) if a buffer has to be moved, and O(1) otherwise.
     pub fn reserve(&mut self, bound: usize) -> Result<(), AllocError>
         ensures { self.new ≡ self.old }
     {
@@ -171,13 +211,25 @@ impl<Ix: IndexType> Order<Ix> {
     /// # Errors
     ///
     /// Returns `AllocError` if an allocation fails; the order is unchanged.
+    ///
+    /// # Complexity
+    ///
+    /// The same as [`reserve`](Order::reserve).
     pub fn reserve_like(&mut self, other: &Self) -> Result<(), AllocError>
         ensures { self.new ≡ self.old }
     {
         self.reserve(other.list.capacity())
     }
 
-    /// Takes a node out. O(1), plus the length of a run still to be linked.
+    /// Removes a node.
+    ///
+    /// # Requires
+    ///
+    /// - The order contains `n`. Test: `holds(n)`.
+    ///
+    /// # Complexity
+    ///
+    /// O(1), plus the length of a run that is still to be linked.
     #[inline]
     pub fn remove(&mut self, n: NodeIndex<Ix>)
         requires { Contains self.old (Ix.number n) }
@@ -191,8 +243,18 @@ impl<Ix: IndexType> Order<Ix> {
         }
     }
 
-    /// Renames a node to `m`, in its place, as when a graph moves its last node into a freed index.
-    /// O(1), plus the length of a run still to be linked.
+    /// Replaces the node `n` with `m`, at the same position, as when a graph moves its last node
+    /// into a freed index.
+    ///
+    /// # Requires
+    ///
+    /// - `held`: The order contains `n`. Test: `holds(n)`.
+    /// - `free`: The order does not contain `m` yet, unless `m` is `n`.
+    /// - `lower`: `m` is at most `n`. Test: `m.index() <= n.index()`.
+    ///
+    /// # Complexity
+    ///
+    /// O(1), plus the length of a run that is still to be linked.
     #[inline]
     pub fn rename(&mut self, n: NodeIndex<Ix>, m: NodeIndex<Ix>)
         requires held { Contains self.old (Ix.number n) }
@@ -206,7 +268,21 @@ impl<Ix: IndexType> Order<Ix> {
         }
     }
 
-    /// Puts a node first. Costs the same as `push`.
+    /// Inserts a node that the order does not contain yet, before all others.
+    ///
+    /// # Requires
+    ///
+    /// - `real`: `n` is not `end`, the greatest value of the index type. Test:
+    ///   `n != NodeIndex::end()`.
+    /// - `absent`: The order does not contain `n` yet. Test: `!holds(n)`.
+    ///
+    /// # Errors
+    ///
+    /// Returns `AllocError` if an allocation fails; the order is unchanged.
+    ///
+    /// # Complexity
+    ///
+    /// The same as [`push`](Order::push).
     // Out of line, to keep what adds a node on either side small where it is inlined.
     #[inline(never)]
     pub fn push_first(&mut self, n: NodeIndex<Ix>) -> Result<(), AllocError>
@@ -221,8 +297,16 @@ impl<Ix: IndexType> Order<Ix> {
         Ok(())
     }
 
-    /// Moves a node to the front. O(1), plus the length of a run still to be linked, unless labels
-    /// reach the start of their range.
+    /// Moves a node to the front.
+    ///
+    /// # Requires
+    ///
+    /// - The order contains `n`. Test: `holds(n)`.
+    ///
+    /// # Complexity
+    ///
+    /// O(1), plus the length of a run that is still to be linked. If labels reach the start of
+    /// their range, all nodes are relabelled.
     #[inline(never)]
     pub fn move_first(&mut self, n: NodeIndex<Ix>)
         requires { Contains self.old (Ix.number n) }
@@ -237,8 +321,18 @@ impl<Ix: IndexType> Order<Ix> {
         self.list.move_first(n);
     }
 
-    /// Moves a node right before another. O(1), plus the length of a run still to be linked, unless
-    /// labels leave no room.
+    /// Moves the node `n` to just before `b`.
+    ///
+    /// # Requires
+    ///
+    /// - `held`: The order contains `n`. Test: `holds(n)`.
+    /// - `there`: The order contains `b`. Test: `holds(b)`.
+    /// - `differ`: `n` and `b` are not the same index. Test: `n != b`.
+    ///
+    /// # Complexity
+    ///
+    /// O(1), plus the length of a run that is still to be linked. If labels leave no room, some
+    /// nodes are relabelled.
     #[inline(never)]
     pub fn move_before(&mut self, n: NodeIndex<Ix>, b: NodeIndex<Ix>)
         requires held { Contains self.old (Ix.number n) }
@@ -251,7 +345,16 @@ impl<Ix: IndexType> Order<Ix> {
         self.list.move_before(n, b);
     }
 
-    /// The position of a node. O(position).
+    /// The position of a node, counted from 0. To compare the positions of two nodes, use
+    /// [`stands_before`](Order::stands_before), which takes O(1).
+    ///
+    /// # Requires
+    ///
+    /// - The order contains `n`. Test: `holds(n)`.
+    ///
+    /// # Complexity
+    ///
+    /// O(position).
     pub fn place(&self, n: NodeIndex<Ix>) -> usize
         requires { Contains self.now (Ix.number n) }
         ensures { result ≡ place self.now (Ix.number n) }
@@ -264,7 +367,15 @@ impl<Ix: IndexType> Order<Ix> {
         }
     }
 
-    /// The node at a position. O(position).
+    /// The node at a position, counted from 0. To go through all nodes use [`nodes`](Order::nodes).
+    ///
+    /// # Requires
+    ///
+    /// - `place` is below the number of nodes. Test: `place < len()`.
+    ///
+    /// # Complexity
+    ///
+    /// O(position).
     pub fn at(&self, place: usize) -> NodeIndex<Ix>
         requires { place < length self.now }
         ensures { Ix.number result ≡ slice_index self.now place }
@@ -277,7 +388,15 @@ impl<Ix: IndexType> Order<Ix> {
         }
     }
 
-    /// A copy of the order.
+    /// A copy of the order, independent of this one.
+    ///
+    /// # Errors
+    ///
+    /// Returns `AllocError` if an allocation fails.
+    ///
+    /// # Complexity
+    ///
+    /// O(greatest index of a node).
     pub fn try_clone(&self) -> Result<Self, AllocError>
         ensures { IfOk result (λ o. o ≡ self.now) }
     {
@@ -298,7 +417,7 @@ impl<Ix: IndexType> Order<Ix> {
         })
     }
 
-    /// Removes all nodes, and keeps the capacity. O(1).
+    /// Removes all nodes, and keeps the capacity.
     #[inline]
     pub fn clear(&mut self)
         ensures { self.new ≡ [] }

@@ -1,8 +1,8 @@
 -- A block worked through, node by node from the last to the first, while rows are written and edges are flagged.
-use Rattle.std.proofs.Common.{◌≡◌, ℕ, suc, ◌+◌, ◌<◌, ◌≤◌, Bool, true, false, ◌⊎◌, ◌↔◌, inl, inr, List}
+use Rattle.std.proofs.Common.{◌≡◌, ℕ, suc, ◌+◌, ◌-◌, ◌*◌, ◌<◌, ◌≤◌, Bool, true, false, ◌⊎◌, ◌↔◌, inl, inr, List}
 use Rattle.std.proofs.Common.{length, get_or, set, length-set, refl, sym, ap, subst, ◌∙◌, arith, Contains}
 use Rattle.std.proofs.lemmas.Bool.{cases_eq}
-use Rattle.daggy_base.specs.Graph.{Graph}
+use Rattle.daggy_base.specs.Graph.{Graph, edge_count}
 use Rattle.daggy_base.specs.Reduction.{ReachesIndirectly}
 use Rattle.daggy_base.specs.WellFormed.{IsWellFormed}
 use Rattle.daggy_base.proofs.OutEdgesRead.{joins}
@@ -11,9 +11,9 @@ use Rattle.daggy_search.specs.declared.arcs.Segment.{Segment}
 use Rattle.daggy_redundant.specs.Flags.{IsFlagged}
 use Rattle.daggy_reduction.proofs.BlockRows.{AreRows, IsRow}
 use Rattle.daggy_reduction.specs.Blocks.{IsPlaced, HasBits, HasBit, AreArcsOf, AreArcs, AreLaidOut, AreLeft, HasArcTo}
-use Rattle.daggy_reduction.specs.Blocks.{ArePassedOn, MarksArcs, is_in_row, segment_at, LeadsInto}
+use Rattle.daggy_reduction.specs.Blocks.{ArePassedOn, MarksArcs, is_in_row, segment_at, arcs_in, LeadsInto}
 use Rattle.daggy_reduction.proofs.SegmentArcs.{arcs_same, arcs_later}
-use Rattle.daggy_reduction.proofs.LaidOut.{laid_out_shorter, others_kept, here_is}
+use Rattle.daggy_reduction.proofs.LaidOut.{laid_out_shorter, others_kept, here_is, arcs_fewer}
 use Rattle.daggy_reduction.proofs.BlockRows.{LeadsFrom, there, listed_at}
 use Rattle.daggy_reduction.proofs.BlockRows.{row_direct, row_indirect, rows_pass, row_both, rows_on, flags_here, arcs_left}
 
@@ -46,6 +46,7 @@ pub record Working {N E I : Type 0} (t : Task N E I) (now : Progress I) : Type 0
   pub roomy : length now.rows ≡ t.room
   pub parted : length now.segments ≡ t.segments
   pub laid_out : AreLaidOut (length t.nodes) (length now.arcs) now.segments
+  pub few : arcs_in now.segments (length t.nodes) ≤ edge_count t.graph
   pub ahead : (k : ℕ) → k < now.left
       → AreArcsOf t.number t.graph t.places t.low (get_or t.nodes k 0) now.arcs (segment_at now.segments k)
   pub behind : (k : ℕ) → now.left ≤ k → k < length t.nodes
@@ -66,6 +67,7 @@ work_start t rows arcs segments roomy parted up inside are =
       roomy = roomy;
       parted = parted;
       laid_out = are.laid_out;
+      few = are.few;
       ahead = λ k low. are.each k (omega (arith, low, inside));
       behind = λ k from low. arcs_later up (are.each k low);
       rows = λ m from till. absurd (omega (arith, from, till));
@@ -93,6 +95,21 @@ module _ {N E I : Type 0} {t : Task N E I} (w : IsWellFormed t.end t.graph) (pl 
     rows_are : AreRows t.graph t.nodes t.low t.high (suc m) now.rows
     rows_are =
         let P : ℕ → Type 0 = λ z. AreRows t.graph t.nodes t.low t.high z now.rows in subst P (sym m_is) s.rows
+
+    -- what was paid for, with what the nodes that are left cost at most
+    pub work_paid : (looks looks' all : ℕ) → looks + 2 * arcs_in now.segments now.left ≤ all
+        → looks' ≤ looks + 2 * (seg.end - seg.begin) → length t.nodes ≤ length now.segments → (stop : ℕ)
+        → seg.begin ≤ stop → stop ≤ seg.end → {segments' : List Segment}
+        → segments' ≡ set now.segments m (record { begin = seg.begin; end = stop }) → looks' + 2 * arcs_in segments' m ≤ all
+    work_paid looks looks' all paid more fits stop from till segments_are =
+        omega (
+          arith,
+          paid,
+          more,
+          ap (arcs_in now.segments) m_is,
+          ap (λ z. arcs_in z m) segments_are,
+          arcs_fewer s.laid_out m here fits stop from till m,
+        )
 
     pub passed_on : ArePassedOn now.arcs seg t.low t.high now.rows
     passed_on = rows_pass pl t.low t.high inside m here t.number w now.arcs seg arcs_are now.rows rows_are
@@ -128,6 +145,13 @@ module _ {N E I : Type 0} {t : Task N E I} (w : IsWellFormed t.end t.graph) (pl 
             laid_out =
                 subst L (sym segments_are)
                 (laid_out_shorter s.laid_out m here fits stop left.from left.till left.length_kept);
+            few =
+                omega (
+                  arith,
+                  s.few,
+                  ap (λ z. arcs_in z (length t.nodes)) segments_are,
+                  arcs_fewer s.laid_out m here fits stop left.from left.till (length t.nodes),
+                );
             ahead = λ k low.
                 (let S : List Segment → Type 0 = λ z.
                 AreArcsOf t.number t.graph t.places t.low (get_or t.nodes k 0) arcs' (segment_at z k) in
@@ -173,7 +197,7 @@ module _ {N E I : Type 0} {t : Task N E I} (w : IsWellFormed t.end t.graph) (pl 
   -- with none left, each node has its arcs
   pub work_listed : now.left ≡ 0 → AreArcs t.number t.graph t.nodes t.places t.high now.arcs now.segments
   work_listed none =
-      record { laid_out = s.laid_out; each = λ k low. s.behind k (omega (arith, none)) low }
+      record { laid_out = s.laid_out; few = s.few; each = λ k low. s.behind k (omega (arith, none)) low }
 
   -- with none left, exactly the edges that lead into the block are flagged since
   pub work_done : now.left ≡ 0 → (e : ℕ) → IsFlagged t.end now.flags e

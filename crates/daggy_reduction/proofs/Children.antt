@@ -1,13 +1,16 @@
 -- Iterating over the children of a node, edge by edge.
-use Rattle.std.proofs.Common.{◌≡◌, ◌≢◌, ℕ, suc, ◌+◌, ◌<◌, ◌≤◌, Bool, true, false, ◌⊎◌, ◌↔◌, inl, inr, List, length}
-use Rattle.std.proofs.Common.{get_or, drop, set, refl, sym, subst, ◌∙◌, arith, length-set}
+use Rattle.std.proofs.Common.{◌≡◌, ◌≢◌, ℕ, zero, suc, ◌+◌, ◌<◌, ◌≤◌, Bool, true, false, ◌⊎◌, ◌↔◌, inl, inr, List, [], ◌∷◌}
+use Rattle.std.proofs.Common.{length, get_or, drop, set, refl, sym, ap, subst, ◌∙◌, arith, length-set}
 use Rattle.std.proofs.lemmas.Bool.{false≢true, cases_lt}
-use Rattle.daggy_base.specs.Graph.{Graph, HasEdge, out_list, node_bound}
+use Rattle.daggy_base.specs.Graph.{Graph, HasEdge, out_list, node_bound, edge_count}
 use Rattle.daggy_base.specs.Path.{AreJoined}
+use Rattle.daggy_base.specs.Ordered.{edges_from}
+use Rattle.daggy_base.proofs.Lists.{Mem, Unique}
+use Rattle.daggy_base.proofs.EdgesFrom.{lists_length}
 use Rattle.daggy_base.specs.Cursor.{first_of}
 use Rattle.daggy_base.specs.WellFormed.{IsWellFormed}
 use Rattle.daggy_base.specs.Look.{IsLook}
-use Rattle.daggy_base.proofs.OutEdgesRead.{LookedTo, below_bound, read_part, all_read, has_edge, child_exists}
+use Rattle.daggy_base.proofs.OutEdgesRead.{LookedTo, lists_few, below_bound, read_part, read_whole, all_read, has_edge, child_exists}
 use Rattle.daggy_base.proofs.OutEdgesRead.{child_joined, next_cursor, looked_more}
 use Rattle.daggy_search.proofs.SearchProgress.{set_marked}
 use Rattle.daggy_redundant.specs.Comparison.{JoinsAll}
@@ -30,6 +33,9 @@ module _ {N E : Type 0} {end : ℕ} {g₀ g : Graph N E} (w : IsWellFormed end g
 
   pub looking_less : e ≢ end → s.passed + 1 ≤ length (out_list g₀ u)
   looking_less here = omega (arith, (read_part end g₀ w u s.passed e s.cursor here).0)
+
+  pub looking_whole : e ≡ end → looks ≡ looks₀ + length (out_list g₀ u)
+  looking_whole h = omega (arith, s.counted, read_whole end g₀ w u s.passed e s.cursor s.within h)
 
   -- at `end` P holds of all children
   pub all_looked : e ≡ end → (v : ℕ) → AreJoined g₀ u v → P v
@@ -82,6 +88,41 @@ pub marks_grow : (marks : List Bool) (v : ℕ) → v < length marks
     → ((n : ℕ) → get_or marks n false ≡ true → get_or (set marks v true) n false ≡ true)
     × (get_or (set marks v true) v false ≡ true)
 marks_grow marks v low = (λ n m. (set_marked marks v n low).1 (inr m), (set_marked marks v v low).1 (inl refl))
+
+-- the nodes below a number, the last one first
+abbrev pub down : ℕ → List ℕ
+down zero = []
+down (suc n) = n ∷ down n
+
+down_low : (n x : ℕ) → Mem x (down n) → x < n
+down_low zero x m = absurd m
+down_low (suc n) x (inl is) = omega (arith, is)
+down_low (suc n) x (inr m) = omega (arith, down_low n x m)
+
+down_once : (n : ℕ) → Unique (down n)
+down_once zero = tt
+down_once (suc n) = (λ m. absurd (omega (arith, down_low n n m)), down_once n)
+
+-- no more edges leave them than there are
+pub down_few : {N E : Type 0} {end : ℕ} {g : Graph N E} → IsWellFormed end g → (n : ℕ)
+    → edges_from g (down n) ≤ edge_count g
+down_few {end = end} {g = g} w n =
+    omega (arith, lists_length g (down n), lists_few end g w (down n) (down_once n))
+
+-- one node more
+pub down_more : {N E : Type 0} {g₀ g : Graph N E} (base : ℕ) {n u looks looks' : ℕ} → g ≡ g₀ → u ≡ n
+    → looks ≤ base + edges_from g₀ (down n) → looks' ≤ looks + length (out_list g u)
+    → looks' ≤ base + edges_from g₀ (down (n + 1))
+down_more {g₀ = g₀} base {n} {u} same is paid more =
+    let next : n + 1 ≡ suc n = omega arith in
+    omega (
+      arith,
+      paid,
+      more,
+      ap (λ z. length (out_list z u)) same,
+      ap (λ z. length (out_list g₀ z)) is,
+      ap (λ z. edges_from g₀ (down z)) next,
+    )
 
 -- What is compared: two graphs, the size of the worklist, and the number past all nodes of the first graph.
 pub record Pair (N E M F : Type 0) : Type 0 where

@@ -13,6 +13,7 @@ pub mod SpannedLooks
 pub mod ListedArcs
 pub mod SegmentArcs
 pub mod LaidOut
+pub mod SeenEdges
 pub mod CountedArcs
 pub mod PassedArcs
 pub mod MarkedPlaces
@@ -20,6 +21,7 @@ pub mod BlockRows
 pub mod BlockFlags
 pub mod PlacedNodes
 pub mod BlockSweep
+pub mod BlockLooks
 pub mod NotedEdges
 pub mod SpanSums
 pub mod ListedChildren

@@ -14,9 +14,9 @@ use Rattle.daggy_base.proofs.OutEdgesRead.{leaves, listed, below_bound, read_who
 use Rattle.daggy_base.proofs.OutEdgesRead.{child_exists, next_cursor, lists_of, lists_few}
 use Rattle.daggy_search.specs.declared.arcs.Arc.{Arc}
 use Rattle.daggy_search.specs.declared.arcs.Segment.{Segment}
-use Rattle.daggy_reduction.specs.Blocks.{IsPlaced, IsIn, AreArcsOf, AreArcs, AreLaidOut, segment_at}
+use Rattle.daggy_reduction.specs.Blocks.{IsPlaced, IsIn, AreArcsOf, AreArcs, AreLaidOut, segment_at, arcs_in}
 use Rattle.daggy_reduction.proofs.SegmentArcs.{in_step, in_none, in_same, arcs_same}
-use Rattle.daggy_reduction.proofs.LaidOut.{at_set_same, at_set_other}
+use Rattle.daggy_reduction.proofs.LaidOut.{at_set_same, at_set_other, arcs_fit}
 use Rattle.daggy_reduction.proofs.BlockRows.{unique_front}
 use Rattle.daggy_redundant.proofs.QueueProgress.{lists_append}
 
@@ -446,5 +446,13 @@ module _ {N E I : Type 0} {number : I → ℕ} {t : Side N E} (w : IsWellFormed 
               within = λ k low. omega (arith, s.laid_out.within k (omega (arith, low, whole)), end);
               apart = λ j k before low. s.laid_out.apart j k before (omega (arith, low, whole));
             };
+        few =
+            omega (
+              arith,
+              arcs_fit s.laid_out,
+              ap (arcs_in now.segments) whole,
+              s.stop_is,
+              lists_few t.end t.graph w (take now.nodes t.nodes) (unique_front pl now.nodes (omega (arith, whole))),
+            );
         each = λ k low. s.listed k (omega (arith, low, whole));
       }

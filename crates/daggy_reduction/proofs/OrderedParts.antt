@@ -1,18 +1,22 @@
 -- Parts of a graph sorted by their positions in a topological order.
-use Rattle.std.proofs.Common.{◌≡◌, ℕ, ◌≤◌, ◌↔◌, List, [], ◌∷◌, inl, inr, refl, sym, ap, subst, arith, Contains}
+use Rattle.std.proofs.Common.{◌≡◌, ℕ, ◌+◌, ◌≤◌, ◌↔◌, Option, Some, None, List, [], ◌∷◌, inl, inr, refl, sym, ap, subst}
+use Rattle.std.proofs.Common.{length, map, count_by, is_some, arith, Contains}
+use Rattle.std.specs.Option.{option_map}
 use Rattle.std.proofs.lemmas.Bool.{cases_lt}
-use Rattle.daggy_base.specs.Graph.{Graph, HasNode}
-use Rattle.daggy_base.specs.Ordered.{IsOrderOf, place}
+use Rattle.daggy_base.specs.Graph.{Graph, HasNode, in_list, edge_count}
+use Rattle.daggy_base.specs.Ordered.{IsOrderOf, place, edges_from}
 use Rattle.daggy_base.specs.Path.{AreJoined, Reaches, IsPath, end_of}
 use Rattle.daggy_base.specs.WellFormed.{IsWellFormed}
 use Rattle.daggy_base.proofs.Lists.{Mem, contains_mem}
+use Rattle.daggy_base.proofs.Slots.{count_cons}
 use Rattle.daggy_base.proofs.LongerPaths.{reaches_more}
 use Rattle.daggy_base.proofs.Sorted.{place_at, same_place}
 use Rattle.daggy_base.proofs.PathEnds.{reached_exists}
 use Rattle.daggy_order.proofs.OrderEdgeResult.{reached_later}
-use Rattle.daggy_search.specs.Reversed.{reversed}
+use Rattle.daggy_search.specs.Reversed.{reversed, reversed_edge}
 use Rattle.daggy_search.proofs.ReversedGraph.{joined_into, joined_out, reaches_into, reaches_out}
 use Rattle.daggy_reduction.specs.Descendants.{IsDescendantOf, IsDescendantOfAny, IsAncestorOfAny, IsSortedPart, IsOrderOfPart}
+use Rattle.daggy_reduction.specs.Descendants.{edges_into}
 
 module _ {N E : Type 0} (g : Graph N E) (order : List ℕ) (ordered : IsOrderOf g order) {Part : ℕ → Type 0}
     (exist : (n : ℕ) → Part n → HasNode g n) (nodes : List ℕ) (s : IsSortedPart order Part nodes) where
@@ -62,6 +66,22 @@ module _ {N E : Type 0} (g : Graph N E) where
 pub joined_exist : {N E : Type 0} (limit : ℕ) (g : Graph N E) → IsWellFormed limit g
     → (u v : ℕ) → AreJoined g u v → HasNode g u × HasNode g v
 joined_exist limit g w u v joined = (w.parents joined.0 _ joined.2, w.children joined.0 _ joined.2)
+
+-- so many edges enter nodes as leave them in the reversed graph
+pub edges_turned : {N E : Type 0} (g : Graph N E) (ns : List ℕ) → edges_from (reversed g) ns ≡ edges_into g ns
+edges_turned g [] = refl
+edges_turned g (n ∷ ns) = ap (λ z. length (in_list g n) + z) (edges_turned g ns)
+
+count_mapped : {A B : Type 0} (f : A → B) (xs : List (Option A))
+    → count_by is_some (map (option_map f) xs) ≡ count_by is_some xs
+count_mapped f [] = refl
+count_mapped {A} f (None ∷ xs) =
+    omega (arith, count_cons (option_map f None) (map (option_map f) xs), count_cons {A = A} None xs, count_mapped f xs)
+count_mapped f (Some x ∷ xs) =
+    omega (arith, count_cons (Some (f x)) (map (option_map f) xs), count_cons (Some x) xs, count_mapped f xs)
+
+pub count_turned : {N E : Type 0} (g : Graph N E) → edge_count (reversed g) ≡ edge_count g
+count_turned g = count_mapped reversed_edge g.edges
 
 module _ {N E : Type 0} (g : Graph N E) (exist : (u v : ℕ) → AreJoined g u v → HasNode g u × HasNode g v) where
   pub ancestors_turned : (given : List ℕ) (n : ℕ) → IsDescendantOfAny (reversed g) given n ↔ IsAncestorOfAny g given n

@@ -1,12 +1,17 @@
 -- Nodes in an order with their places, and rows of bits over a block of them.
-use Rattle.std.specs.Prelude.{◌≡◌, ℕ, ◌+◌, ◌-◌, ◌<◌, ◌≤◌, Bool, true, false, ◌&&◌, nat_lt, nat_le, Some, List, []}
+use Rattle.std.specs.Prelude.{◌≡◌, ℕ, ◌+◌, ◌-◌, ◌/◌, ◌<◌, ◌≤◌, Bool, true, false, ◌&&◌, nat_lt, nat_le, Some, List, []}
 use Rattle.std.specs.Prelude.{length, slice_index, slice_index_or, Contains, ◌↔◌, ◌⊎◌}
-use Rattle.daggy_base.specs.Graph.{Graph, Edge, HasNode, edge_at}
+use Rattle.daggy_base.specs.Graph.{Graph, Edge, HasNode, edge_at, edge_count}
 use Rattle.daggy_base.specs.Path.{AreJoined}
 use Rattle.daggy_base.specs.Reduction.{ReachesIndirectly}
 use Rattle.daggy_search.specs.declared.arcs.Arc.{Arc}
 use Rattle.daggy_search.specs.declared.arcs.Segment.{Segment}
 use Rattle.daggy_redundant.specs.Flags.{IsFlagged}
+use Rattle.daggy_reduction.specs.CountedArcs.{sum_below}
+
+-- how many blocks of 512 nodes have so many nodes
+abbrev pub blocks_of : (nodes : ℕ) → ℕ
+blocks_of nodes = (nodes + 511) / 512
 
 -- existing nodes and all that they reach, each parent before its children, with the place of each; other nodes have
 -- places past the end
@@ -45,16 +50,21 @@ pub record AreArcsOf {N E I : Type 0} (number : I → ℕ) (g : Graph N E) (plac
 abbrev pub segment_at : List Segment → ℕ → Segment
 segment_at segments k = slice_index_or segments k (record { begin = 0; end = 0 })
 
+-- how many arcs stand in the first segments
+abbrev pub arcs_in : List Segment → (count : ℕ) → ℕ
+arcs_in segments count = sum_below (λ k. (segment_at segments k).end - (segment_at segments k).begin) count
+
 -- segments one after another
 pub record AreLaidOut (count total : ℕ) (segments : List Segment) : Type 0 where
   pub ordered : (k : ℕ) → k < count → (segment_at segments k).begin ≤ (segment_at segments k).end
   pub within : (k : ℕ) → k < count → (segment_at segments k).end ≤ total
   pub apart : (j k : ℕ) → j < k → k < count → (segment_at segments j).end ≤ (segment_at segments k).begin
 
--- a segment of them for each node
+-- a segment of them for each node, and no more arcs than edges
 pub record AreArcs {N E I : Type 0} (number : I → ℕ) (g : Graph N E) (nodes places : List ℕ) (low : ℕ)
     (arcs : List (Arc I)) (segments : List Segment) : Type 0 where
   pub laid_out : AreLaidOut (length nodes) (length arcs) segments
+  pub few : arcs_in segments (length nodes) ≤ edge_count g
   pub each : (k : ℕ) → k < length nodes
       → AreArcsOf number g places low (slice_index nodes k) arcs (segment_at segments k)
 

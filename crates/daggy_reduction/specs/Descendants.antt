@@ -1,7 +1,7 @@
 -- Descendants, and parts of an order.
-use Rattle.std.specs.Prelude.{ℕ, ◌≤◌, ◌↔◌, List, Contains}
+use Rattle.std.specs.Prelude.{ℕ, ◌+◌, ◌≤◌, ◌↔◌, List, [], ◌∷◌, length, Contains}
 use Rattle.std.specs.List.Sorted.{IsNonDecreasingBy}
-use Rattle.daggy_base.specs.Graph.{Graph}
+use Rattle.daggy_base.specs.Graph.{Graph, in_list}
 use Rattle.daggy_base.specs.Ordered.{place}
 use Rattle.daggy_base.specs.Path.{AreJoined, Reaches}
 use Rattle.daggy_base.specs.WellFormed.{AreDistinct}
@@ -23,6 +23,11 @@ pub record IsSortedPart (order : List ℕ) (Part : ℕ → Type 0) (nodes : List
   pub exact : (n : ℕ) → Contains nodes n ↔ Part n
   pub once : AreDistinct nodes
   pub sorted : IsNonDecreasingBy (place order) nodes
+
+-- how many edges enter the nodes of a list
+abbrev pub edges_into : {N E : Type 0} → Graph N E → List ℕ → ℕ
+edges_into g [] = 0
+edges_into g (n ∷ ns) = length (in_list g n) + edges_into g ns
 
 -- a path of one or more edges leads from n to one of the given nodes
 abbrev pub IsAncestorOfAny : {N E : Type 0} → Graph N E → (given : List ℕ) → ℕ → Type 0

@@ -1,4 +1,4 @@
-//! The nodes reachable from some nodes, in an order.
+//! The nodes reachable from given nodes, by their positions in an order.
 ghost use Rattle.std.specs.Prelude.{◌≡◌, ℕ, ◌+◌, ◌≤◌, ◌↔◌, ◌⊎◌, false, map, take, filter, length};
 ghost use Rattle.std.specs.Prelude.{slice_index_or, Contains, IfOk, OnOk};
 ghost use Rattle.daggy_base.specs.Graph.{HasNode, node_bound, edge_count, out_list};
@@ -104,13 +104,19 @@ fn entered_nodes<Ix: IndexType>(
 /// The existing nodes of `nodes` and all nodes reachable from them, each once, by their positions
 /// in an order of all nodes.
 ///
+/// # Requires
+///
+/// - `held`: `order` contains all nodes of `source`.
+/// - `scratch_fits`: `scratch` has room for the nodes of `source`. Test:
+///   `scratch.fits(source.node_bound(), 0)`.
+///
 /// # Errors
 ///
 /// Returns `AllocError` if an allocation fails.
 ///
 /// # Complexity
 ///
-/// O(nodes and edges visited), and sorting the nodes found.
+/// O(nodes and edges visited), plus the cost of sorting the nodes found.
 pub fn affected<Ix: IndexType, S: EdgeSource<Ix>>(
     alloc: Global,
     source: &mut S,
@@ -145,13 +151,19 @@ pub fn affected<Ix: IndexType, S: EdgeSource<Ix>>(
 /// The descendants of some nodes, each once, by their positions in an order of all nodes: the nodes
 /// to which a path of one or more edges leads from one of `nodes`.
 ///
+/// # Requires
+///
+/// - `held`: `order` contains all nodes of `source`.
+/// - `scratch_fits`: `scratch` has room for the nodes of `source`. Test:
+///   `scratch.fits(source.node_bound(), 0)`.
+///
 /// # Errors
 ///
 /// Returns `AllocError` if an allocation fails.
 ///
 /// # Complexity
 ///
-/// O(nodes and edges visited), and sorting the nodes found.
+/// O(nodes and edges visited), plus the cost of sorting the nodes found.
 pub fn descendants<Ix: IndexType, S: EdgeSource<Ix>>(
     alloc: Global,
     source: &mut S,

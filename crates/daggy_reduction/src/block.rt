@@ -1,7 +1,7 @@
 //! The transitive closure of a block of nodes, by rows of bits, and the redundant edges into it.
-ghost use Rattle.std.specs.Prelude.{◌≡◌, ℕ, ◌+◌, ◌-◌, ◌<◌, ◌≤◌, ◌↔◌, ◌⊎◌, [], true, false, map, length};
-ghost use Rattle.std.specs.Prelude.{take, slice_index_or, slice_set, Contains};
-ghost use Rattle.daggy_base.specs.Graph.{node_bound, edge_bound};
+ghost use Rattle.std.specs.Prelude.{◌≡◌, ℕ, ◌+◌, ◌-◌, ◌*◌, ◌<◌, ◌≤◌, ◌↔◌, ◌⊎◌, [], true, false, map};
+ghost use Rattle.std.specs.Prelude.{length, take, slice_index_or, slice_set, Contains};
+ghost use Rattle.daggy_base.specs.Graph.{node_bound, edge_bound, edge_count};
 ghost use Rattle.daggy_base.specs.WellFormed.{IsWellFormed};
 ghost use Rattle.daggy_redundant.specs.Flags.{IsFlagged};
 ghost use Rattle.daggy_reduction.specs.Blocks.{IsPlaced, HasBits, HasBit, IsIn, AreArcs, HasArcTo};
@@ -76,7 +76,8 @@ fn reach_over(reached: &mut Reached, p: usize, block: Block, rows: &[Row])
 }
 
 // What a node reaches in a block, by the rows of its children.
-fn reach_from<Ix: IndexType>(
+fn reach_from<Ix: IndexType, S: EdgeSource<Ix>>(
+    source: &mut S,
     arcs: &[Arc<Ix>],
     segment: Segment,
     block: Block,
@@ -92,13 +93,17 @@ fn reach_from<Ix: IndexType>(
     ensures indirect { HasBits block.low block.high
         (λ i. HasArcTo arcs.now segment (λ p. (p < block.high) × HasBit rows.now p i))
         result.indirect }
+    ensures same { S.graph source.new ≡ S.graph source.old }
+    ensures counted { S.looks source.new ≡ S.looks source.old + (segment.end - segment.begin) }
 {
     let mut reached = Reached {
         direct: Row::new(),
         indirect: Row::new(),
     };
     'arcs: for k in segment.begin..segment.end {
-        reach_over(&mut reached, arcs[k].place.index(), block, rows);
+        let arc = arcs[k];
+        let (place, _) = arc.look(source);
+        reach_over(&mut reached, place.index(), block, rows);
     }
     reached
 }
@@ -114,7 +119,8 @@ fn is_in(row: &Row, block: Block, p: usize) -> bool
 
 // Flags the edges of a node whose children are in the row of a block, and takes them out of the
 // node's segment. Returns where it ends now.
-fn flag_row<Ix: IndexType>(
+fn flag_row<Ix: IndexType, S: EdgeSource<Ix>>(
+    source: &mut S,
     arcs: &mut [Arc<Ix>],
     segment: Segment,
     block: Block,
@@ -133,12 +139,15 @@ fn flag_row<Ix: IndexType>(
     ensures left { AreLeft (is_in_row block.low block.high row.now)
         segment result arcs.old arcs.new }
     ensures flags_kept { length flags.new ≡ length flags.old }
+    ensures same { S.graph source.new ≡ S.graph source.old }
+    ensures counted { S.looks source.new ≡ S.looks source.old + (segment.end - segment.begin) }
 {
     let mut end = segment.begin;
     'arcs: for k in segment.begin..segment.end {
         let arc = arcs[k];
-        if is_in(row, block, arc.place.index()) {
-            flag(flags, arc.edge);
+        let (place, edge) = arc.look(source);
+        if is_in(row, block, place.index()) {
+            flag(flags, edge);
         } else {
             write_arc(arcs, end, arc);
             end += 1;
@@ -149,7 +158,8 @@ fn flag_row<Ix: IndexType>(
 
 // Flags the edges of a node into a block whose children are also reachable by a longer path, and
 // takes them out of the node's segment. Returns where it ends now.
-fn flag_indirect<Ix: IndexType>(
+fn flag_indirect<Ix: IndexType, S: EdgeSource<Ix>>(
+    source: &mut S,
     arcs: &mut [Arc<Ix>],
     segment: Segment,
     block: Block,
@@ -170,11 +180,14 @@ fn flag_indirect<Ix: IndexType>(
     ensures left { AreLeft (is_in_row block.low block.high reached.now.indirect)
         segment result arcs.old arcs.new }
     ensures flags_kept { length flags.new ≡ length flags.old }
+    ensures same { S.graph source.new ≡ S.graph source.old }
+    ensures looked { S.looks source.old ≤ S.looks source.new }
+    ensures counted { S.looks source.new ≤ S.looks source.old + (segment.end - segment.begin) }
 {
     if reached.indirect.is_disjoint(&reached.direct) {
         return segment.end;
     }
-    flag_row(arcs, segment, block, &reached.indirect, flags)
+    flag_row(source, arcs, segment, block, &reached.indirect, flags)
 }
 
 // The row of all that a node reaches in a block.
@@ -190,13 +203,12 @@ fn union(reached: Reached) -> Row
 }
 
 // Flags the redundant edges into the block that begins at the place `low`, of the first `count`
-// nodes of a worklist, takes them out of their segments, and returns where the block ends. `source` is
-// not read. It names the graph, for the contract.
+// nodes of a worklist, takes them out of their segments, and returns where the block ends.
 //
 // The nodes before the end of the block get their rows from the last one to the first: each row is
 // the union of the children's rows and of the children themselves.
 pub(crate) fn flag_block<Ix: IndexType, S: EdgeSource<Ix>>(
-    source: &S,
+    source: &mut S,
     work: &Worklist<Ix>,
     arcs: &mut [Arc<Ix>],
     segments: &mut [Segment],
@@ -205,39 +217,42 @@ pub(crate) fn flag_block<Ix: IndexType, S: EdgeSource<Ix>>(
     rows: &mut [Row],
     flags: &mut [EdgeIndex<Ix>],
 ) -> usize
-    requires well_formed { IsWellFormed Ix.greatest (S.graph source.now) }
-    requires placed { IsPlaced (S.graph source.now)
+    requires well_formed { IsWellFormed Ix.greatest (S.graph source.old) }
+    requires placed { IsPlaced (S.graph source.old)
         (take count work.now.nodes) work.now.cursors }
-    requires listed { AreArcs Ix.number (S.graph source.now)
+    requires listed { AreArcs Ix.number (S.graph source.old)
         (take count work.now.nodes) work.now.cursors low arcs.old segments.old }
     requires all { count ≤ length segments.old }
     requires more { low < count }
     requires within { count ≤ length work.now.nodes }
-    requires places_fit { node_bound (S.graph source.now) ≤ length work.now.cursors }
+    requires places_fit { node_bound (S.graph source.old) ≤ length work.now.cursors }
     requires rows_fit { count ≤ length rows.old }
-    requires flags_fit { edge_bound (S.graph source.now) ≤ length flags.old }
+    requires flags_fit { edge_bound (S.graph source.old) ≤ length flags.old }
+    ensures same { S.graph source.new ≡ S.graph source.old }
     ensures flagged { (e : ℕ) → IsFlagged Ix.greatest (map Ix.number flags.new) e
         ↔ (IsFlagged Ix.greatest (map Ix.number flags.old) e
-        ⊎ LeadsInto (S.graph source.now)
+        ⊎ LeadsInto (S.graph source.old)
         (take count work.now.nodes) work.now.cursors low result e) }
-    ensures listed { AreArcs Ix.number (S.graph source.now)
+    ensures listed { AreArcs Ix.number (S.graph source.old)
         (take count work.now.nodes) work.now.cursors result arcs.new segments.new }
     ensures some { low < result }
     ensures last { result ≤ count }
     ensures full { result < count → result ≡ low + 512 }
+    ensures looked { S.looks source.old ≤ S.looks source.new }
+    ensures counted { S.looks source.new
+        ≤ S.looks source.old + 2 * edge_count (S.graph source.old) }
     ensures rows_kept { length rows.new ≡ length rows.old }
     ensures segments_kept { length segments.new ≡ length segments.old }
     ensures kept { length flags.new ≡ length flags.old }
 {
-    let _ = source;
     let _ = work;
     let block = block_at(low, count);
     let mut k = block.high;
     'nodes: while k > 0 {
         k -= 1;
         let segment = segments[k];
-        let reached = reach_from(arcs, segment, block, rows);
-        let end = flag_indirect(arcs, segment, block, &reached, flags);
+        let reached = reach_from(source, arcs, segment, block, rows);
+        let end = flag_indirect(source, arcs, segment, block, &reached, flags);
         segments[k] = Segment {
             begin: segment.begin,
             end,

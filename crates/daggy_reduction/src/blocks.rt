@@ -1,13 +1,14 @@
 //! Redundant edges, found by rows of bits for a block of nodes at a time.
 ghost use Rattle.std.specs.Prelude.{◌≡◌, ℕ, ◌+◌, ◌*◌, ◌≤◌, ◌↔◌, map, length, take, Contains};
 ghost use Rattle.std.specs.Prelude.{vec_len, vec_capacity};
-ghost use Rattle.daggy_base.specs.Graph.{node_bound, edge_bound, edge_count};
+ghost use Rattle.daggy_base.specs.Graph.{node_bound, edge_bound, node_count, edge_count};
 ghost use Rattle.daggy_base.specs.Reduction.{IsRedundant};
 ghost use Rattle.daggy_base.specs.Ordered.{IsOrderOf};
 ghost use Rattle.daggy_redundant.specs.Flags.{IsFlagged};
 ghost use Rattle.daggy_redundant.specs.Comparison.{IsAscending};
 ghost use Rattle.std.specs.Borrow.{sem};
 ghost use Rattle.daggy_redundant.specs.KeptRoom.{keeps_room};
+ghost use Rattle.daggy_reduction.specs.Blocks.{blocks_of};
 
 use crate::arcs::{AlongLists, ListArcs};
 use crate::block::flag_block;
@@ -26,10 +27,7 @@ fn grow_arcs<Ix: IndexType>(arcs: &mut Vec<Arc<Ix>>, len: usize)
     ensures more { len ≤ vec_len arcs.new }
     ensures room { vec_capacity arcs.old ≤ vec_capacity arcs.new }
 {
-    let none = Arc {
-        place: Link::end(),
-        edge: EdgeIndex::end(),
-    };
+    let none = Arc::new(Link::end(), EdgeIndex::end());
     'arcs: while arcs.len() < len {
         // It fits what was reserved, so it cannot fail.
         let _pushed = arcs.push(none);
@@ -57,8 +55,9 @@ fn flag_blocks<Ix: IndexType, S: EdgeSource<Ix>, L: ListArcs<Ix, S>>(
     ensures flagged { (e : ℕ) → IsFlagged Ix.greatest (map Ix.number flags.new) e
         ↔ IsRedundant (S.graph source.old) (map Ix.number roots.now) e }
     ensures looked { S.looks source.old ≤ S.looks source.new }
-    ensures counted { S.looks source.new
-        ≤ S.looks source.old + 2 * edge_count (S.graph source.old) }
+    ensures counted { S.looks source.new ≤ S.looks source.old
+        + (2 * blocks_of (node_count (S.graph source.old)) + (L.passes + 1))
+        * edge_count (S.graph source.old) }
     ensures kept { work.new.size ≡ work.old.size }
     ensures arcs_kept { length arcs.new ≡ length arcs.old }
     ensures segments_kept { length segments.new ≡ length segments.old }
@@ -93,8 +92,9 @@ pub(crate) fn leave_redundant_by_blocks<Ix: IndexType, S: EdgeSource<Ix>, L: Lis
     ensures exact { (e : ℕ) → Contains (map Ix.number (take result scratch.new.found)) e
         ↔ IsRedundant (S.graph source.old) (map Ix.number roots.now) e }
     ensures looked { S.looks source.old ≤ S.looks source.new }
-    ensures counted { S.looks source.new
-        ≤ S.looks source.old + 2 * edge_count (S.graph source.old) }
+    ensures counted { S.looks source.new ≤ S.looks source.old
+        + (2 * blocks_of (node_count (S.graph source.old)) + (L.passes + 1))
+        * edge_count (S.graph source.old) }
     ensures nodes_kept { scratch.new.nodes ≡ scratch.old.nodes }
     ensures edges_kept { scratch.new.edges ≡ scratch.old.edges }
     ensures rows_kept { scratch.new.rows ≡ scratch.old.rows }
@@ -111,13 +111,24 @@ pub(crate) fn leave_redundant_by_blocks<Ix: IndexType, S: EdgeSource<Ix>, L: Lis
     collect_flags(flags, bound)
 }
 
-/// As [`redundant_edges_in`](crate::bounded::redundant_edges_in), by rows of bits for 512 nodes at a
-/// time: a node's row has the nodes of the block that it reaches.
+/// The same as [`redundant_edges_in`](crate::bounded::redundant_edges_in), found by rows of bits
+/// for 512 nodes at a time: a node's row has the nodes of the block that it reaches.
+///
+/// # Requires
+///
+/// - `ordered`: `order` is a topological order of the nodes of `source`: it contains exactly these,
+///   each before its children.
+/// - `nodes_fit`: `scratch` has room for the nodes of `source`. Test:
+///   `scratch.fits(source.node_bound(), 0)`.
+/// - `edges_fit`: `scratch` has room for the edges of `source`. Test:
+///   `scratch.fits(0, source.edge_bound())`.
+/// - `rows_fit`: `scratch` has a row for each node of `source`, as after
+///   `scratch.reserve_rows(source.node_bound())`.
 ///
 /// # Complexity
 ///
-/// Looks at each edge at most twice: once to find the nodes, and once to list the edges side by side.
-/// It goes over this list at most twice for each block of 512 nodes. Does not allocate.
+/// Reads each edge at most twice, to find the nodes and to list the edges side by side, and then at
+/// most twice for each block of 512 nodes. Does not allocate.
 pub fn redundant_edges_by_blocks<'s, Ix: IndexType, S: EdgeSource<Ix>>(
     scratch: &'s mut Scratch<Ix>,
     source: &mut S,
@@ -133,8 +144,8 @@ pub fn redundant_edges_by_blocks<'s, Ix: IndexType, S: EdgeSource<Ix>>(
     ensures exact { (e : ℕ) → Contains (map Ix.number result.now) e
         ↔ IsRedundant (S.graph source.old) (map Ix.number roots.now) e }
     ensures looked { S.looks source.old ≤ S.looks source.new }
-    ensures counted { S.looks source.new
-        ≤ S.looks source.old + 2 * edge_count (S.graph source.old) }
+    ensures counted { S.looks source.new ≤ S.looks source.old
+        + (2 * blocks_of (node_count (S.graph source.old)) + 2) * edge_count (S.graph source.old) }
     ensures* rests { sem 𝓛 (keeps_room Ix.row Ix.IndexType scratch.entry) }
 {
     let count = leave_redundant_by_blocks::<Ix, S, AlongLists>(source, order, roots, scratch);

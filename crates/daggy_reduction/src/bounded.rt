@@ -181,10 +181,25 @@ pub(crate) fn leave_redundant_in<Ix: IndexType, S: EdgeSource<Ix>>(
     collect_flags(flags, bound)
 }
 
-/// As [`redundant_edges`](daggy_redundant::redundant::redundant_edges), by a topological order of the nodes.
+/// The same as [`redundant_edges`](daggy_redundant::redundant::redundant_edges), found with a
+/// topological order of the nodes.
 ///
 /// The search from a node enters only nodes before its last child: a longer path to a child passes
 /// through no others.
+///
+/// # Requires
+///
+/// - `ordered`: `order` is a topological order of the nodes of `source`: it contains exactly these,
+///   each before its children.
+/// - `nodes_fit`: `scratch` has room for the nodes of `source`. Test:
+///   `scratch.fits(source.node_bound(), 0)`.
+/// - `edges_fit`: `scratch` has room for the edges of `source`. Test:
+///   `scratch.fits(0, source.edge_bound())`.
+///
+/// # Complexity
+///
+/// One search for each node that the roots reach, which stays before the node's last child in
+/// `order`. Does not allocate.
 pub fn redundant_edges_in<'s, Ix: IndexType, S: EdgeSource<Ix>>(
     scratch: &'s mut Scratch<Ix>,
     source: &mut S,

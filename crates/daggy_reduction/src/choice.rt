@@ -1,17 +1,18 @@
 //! Whether redundant edges are found by searches or by blocks.
-ghost use Rattle.std.specs.Prelude.{◌≡◌, ℕ, ◌+◌, ◌*◌, ◌≤◌, ◌↔◌, map, length, take, Contains};
+ghost use Rattle.std.specs.Prelude.{◌≡◌, ℕ, ◌+◌, ◌*◌, ◌<◌, ◌≤◌, ◌↔◌, map, length, take, Contains, IsTrue};
 ghost use Rattle.daggy_base.specs.Graph.{node_bound, edge_bound, node_count, edge_count};
 ghost use Rattle.daggy_base.specs.Ordered.{IsOrderOf};
 ghost use Rattle.daggy_base.specs.Reduction.{IsRedundant};
 ghost use Rattle.daggy_redundant.specs.Comparison.{IsAscending};
 ghost use Rattle.daggy_reduction.specs.SearchSpan.{all_spanned};
+ghost use Rattle.daggy_reduction.specs.Blocks.{blocks_of};
 
 use crate::arcs::ByIndex;
 use crate::blocks::leave_redundant_by_blocks;
 use crate::bounded::leave_redundant_in;
 use crate::spans::spanned;
 use daggy_base::index::{IndexType, NodeIndex};
-use daggy_base::store::Store;
+use daggy_base::source::IndexedSource;
 use daggy_order::order::Order;
 use daggy_search::{BLOCK, Scratch, Worklist};
 
@@ -23,54 +24,69 @@ fn nodes_reached(nodes: usize, edges: usize) -> usize {
 }
 
 // Whether blocks take fewer looks than the searches are expected to take. A search stays before the
-// last child of its node, and reaches about `nodes_reached` nodes if there are as many.
-fn blocks_pay<Ix: IndexType, S: Store<Ix>>(
-    store: &S,
+// last child of its node, and reaches about `nodes_reached` nodes if there are as many. Blocks are
+// not for fewer than four nodes, where the passes that list the edges take more looks than searches.
+fn blocks_pay<Ix: IndexType, S: IndexedSource<Ix>>(
+    source: &mut S,
     order: &Order<Ix>,
     work: &mut Worklist<Ix>,
+    nodes: usize,
+    edges: usize,
 ) -> bool
-    requires ordered { IsOrderOf (S.graph store.now) order.now }
-    requires fits { node_bound (S.graph store.now) ≤ work.old.size }
+    requires ordered { IsOrderOf (S.graph source.old) order.now }
+    requires fits { node_bound (S.graph source.old) ≤ work.old.size }
+    requires nodes_are { nodes ≡ node_count (S.graph source.old) }
+    requires edges_are { edges ≡ edge_count (S.graph source.old) }
+    ensures same { S.graph source.new ≡ S.graph source.old }
+    ensures many { IsTrue result → 4 ≤ node_count (S.graph source.old) }
+    ensures fewer { IsTrue result → 2 * blocks_of (node_count (S.graph source.old))
+        * edge_count (S.graph source.old) ≤ all_spanned (S.graph source.old) order.now order.now }
+    ensures looked { S.looks source.old ≤ S.looks source.new }
+    ensures counted { S.looks source.new ≤ S.looks source.old + edge_count (S.graph source.old) }
+    ensures unlooked { node_count (S.graph source.old) < 4 → S.looks source.new ≡ S.looks source.old }
     ensures kept { work.new.size ≡ work.old.size }
 {
-    let nodes = store.node_count();
-    let edges = store.edge_count();
     let looks = (nodes / BLOCK + 1).saturating_mul(edges.saturating_mul(2));
-    if edges.saturating_mul(nodes_reached(nodes, edges)) <= looks {
+    if nodes < 4 || edges.saturating_mul(nodes_reached(nodes, edges)) <= looks {
         return false;
     }
-    looks < spanned(store, order, work)
+    looks < spanned(source, order, work)
 }
 
-// As `leave_redundant_in`, by blocks if they pay and there is memory for their rows.
-pub(crate) fn leave_redundant_either_way<Ix: IndexType, S: Store<Ix>>(
-    store: &mut S,
+// As `leave_redundant_in`, by blocks if they pay and there is memory for their rows. `nodes` and
+// `edges` are how many there are.
+pub(crate) fn leave_redundant_either_way<Ix: IndexType, S: IndexedSource<Ix>>(
+    source: &mut S,
     order: &Order<Ix>,
     roots: &[NodeIndex<Ix>],
     scratch: &mut Scratch<Ix>,
+    nodes: usize,
+    edges: usize,
 ) -> usize
-    requires ordered { IsOrderOf (S.graph store.old) order.now }
-    requires nodes_fit { node_bound (S.graph store.old) ≤ scratch.old.nodes }
-    requires edges_fit { edge_bound (S.graph store.old) ≤ scratch.old.edges }
-    ensures same { S.graph store.new ≡ S.graph store.old }
+    requires ordered { IsOrderOf (S.graph source.old) order.now }
+    requires nodes_fit { node_bound (S.graph source.old) ≤ scratch.old.nodes }
+    requires edges_fit { edge_bound (S.graph source.old) ≤ scratch.old.edges }
+    requires nodes_are { nodes ≡ node_count (S.graph source.old) }
+    requires edges_are { edges ≡ edge_count (S.graph source.old) }
+    ensures same { S.graph source.new ≡ S.graph source.old }
     ensures within { result ≤ length scratch.new.found }
     ensures ascending { IsAscending (map Ix.number (take result scratch.new.found)) }
     ensures exact { (e : ℕ) → Contains (map Ix.number (take result scratch.new.found)) e
-        ↔ IsRedundant (S.graph store.old) (map Ix.number roots.now) e }
-    ensures looked { S.looks store.old ≤ S.looks store.new }
-    ensures counted { S.looks store.new ≤ S.looks store.old
-        + (node_count (S.graph store.old) + 2) * edge_count (S.graph store.old) }
-    ensures spanned { S.looks store.new ≤ S.looks store.old
-        + 2 * edge_count (S.graph store.old)
-        + all_spanned (S.graph store.old) order.now order.now }
+        ↔ IsRedundant (S.graph source.old) (map Ix.number roots.now) e }
+    ensures looked { S.looks source.old ≤ S.looks source.new }
+    ensures counted { S.looks source.new ≤ S.looks source.old
+        + (node_count (S.graph source.old) + 2) * edge_count (S.graph source.old) }
+    ensures spanned { S.looks source.new ≤ S.looks source.old
+        + 4 * edge_count (S.graph source.old)
+        + all_spanned (S.graph source.old) order.now order.now }
     ensures nodes_kept { scratch.new.nodes ≡ scratch.old.nodes }
     ensures edges_kept { scratch.new.edges ≡ scratch.old.edges }
 {
-    let nodes = store.node_bound();
-    if blocks_pay(store, order, &mut scratch.work) {
-        if scratch.reserve_rows(nodes).is_ok() {
-            return leave_redundant_by_blocks::<Ix, S, ByIndex>(store, order, roots, scratch);
+    let bound = source.node_bound();
+    if blocks_pay(source, order, &mut scratch.work, nodes, edges) {
+        if scratch.reserve_rows(bound).is_ok() {
+            return leave_redundant_by_blocks::<Ix, S, ByIndex>(source, order, roots, scratch);
         }
     }
-    leave_redundant_in(store, order, roots, scratch)
+    leave_redundant_in(source, order, roots, scratch)
 }

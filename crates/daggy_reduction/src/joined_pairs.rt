@@ -1,7 +1,7 @@
 //! Whether two graphs join the same pairs.
-ghost use Rattle.std.specs.Prelude.{◌≡◌, ℕ, ◌≤◌, ◌↔◌, ◌⊎◌, true, false, length, slice_index_or};
-ghost use Rattle.std.specs.Prelude.{IsTrue};
-ghost use Rattle.daggy_base.specs.Graph.{node_bound};
+ghost use Rattle.std.specs.Prelude.{◌≡◌, ℕ, ◌+◌, ◌*◌, ◌≤◌, ◌↔◌, ◌⊎◌, true, false, length};
+ghost use Rattle.std.specs.Prelude.{slice_index_or, IsTrue};
+ghost use Rattle.daggy_base.specs.Graph.{node_bound, edge_count, out_list};
 ghost use Rattle.daggy_base.specs.Path.{AreJoined};
 ghost use Rattle.daggy_base.specs.WellFormed.{IsWellFormed};
 ghost use Rattle.daggy_redundant.specs.Comparison.{JoinsAll, JoinSamePairs};
@@ -22,6 +22,8 @@ fn mark_children<Ix: IndexType, S: EdgeSource<Ix>>(
     ensures marked { (n : ℕ) → (slice_index_or work.new.marked n false ≡ true)
         ↔ ((slice_index_or work.old.marked n false ≡ true)
         ⊎ AreJoined (S.graph source.old) (Ix.number u) n) }
+    ensures counted { S.looks source.new
+        ≡ S.looks source.old + length (out_list (S.graph source.old) (Ix.number u)) }
     ensures kept { length work.new.marked ≡ length work.old.marked }
     ensures size { work.new.size ≡ work.old.size }
 {
@@ -46,6 +48,9 @@ fn are_children_marked<Ix: IndexType, S: EdgeSource<Ix>>(
     ensures decided { IsTrue result
         ↔ ((n : ℕ) → AreJoined (S.graph source.old) (Ix.number u) n
         → slice_index_or work.now.marked n false ≡ true) }
+    ensures looked { S.looks source.old ≤ S.looks source.new }
+    ensures counted { S.looks source.new
+        ≤ S.looks source.old + length (out_list (S.graph source.old) (Ix.number u)) }
 {
     let end = EdgeIndex::<Ix>::end().index();
     let mut e = source.first(u);
@@ -70,6 +75,10 @@ fn joins_all<Ix: IndexType, A: EdgeSource<Ix>, B: EdgeSource<Ix>>(
     ensures decided { IsTrue result ↔ JoinsAll (A.graph a.old) (B.graph b.old) }
     ensures same { A.graph a.new ≡ A.graph a.old }
     ensures other_same { B.graph b.new ≡ B.graph b.old }
+    ensures looked { A.looks a.old ≤ A.looks a.new }
+    ensures other_looked { B.looks b.old ≤ B.looks b.new }
+    ensures counted { A.looks a.new ≤ A.looks a.old + edge_count (A.graph a.old) }
+    ensures other_counted { B.looks b.new ≤ B.looks b.old + edge_count (B.graph b.old) }
     ensures kept { work.new.size ≡ work.old.size }
 {
     let bound = a.node_bound();
@@ -92,7 +101,7 @@ fn joins_all<Ix: IndexType, A: EdgeSource<Ix>, B: EdgeSource<Ix>>(
 ///
 /// # Complexity
 ///
-/// O(nodes + edges) of both graphs. Does not allocate.
+/// O(nodes + edges) of both graphs: looks at each edge at most twice. Does not allocate.
 pub fn join_same_pairs<Ix: IndexType, A: EdgeSource<Ix>, B: EdgeSource<Ix>>(
     a: &mut A,
     b: &mut B,
@@ -103,6 +112,10 @@ pub fn join_same_pairs<Ix: IndexType, A: EdgeSource<Ix>, B: EdgeSource<Ix>>(
     ensures decided { IsTrue result ↔ JoinSamePairs (A.graph a.old) (B.graph b.old) }
     ensures same { A.graph a.new ≡ A.graph a.old }
     ensures other_same { B.graph b.new ≡ B.graph b.old }
+    ensures looked { A.looks a.old ≤ A.looks a.new }
+    ensures other_looked { B.looks b.old ≤ B.looks b.new }
+    ensures counted { A.looks a.new ≤ A.looks a.old + 2 * edge_count (A.graph a.old) }
+    ensures other_counted { B.looks b.new ≤ B.looks b.old + 2 * edge_count (B.graph b.old) }
 {
     if !joins_all(a, b, work) {
         return false;

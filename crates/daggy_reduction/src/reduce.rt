@@ -33,8 +33,13 @@ pub fn remove_edges<Ix: IndexType, S: Store<Ix>>(store: &mut S, edges: &[EdgeInd
     }
 }
 
-/// Removes the edges that are redundant below some roots: finds them all first, then removes them
-/// from the highest index down.
+/// Removes the edges that are redundant below the given roots: it finds them all first, and then
+/// removes them from the highest index down.
+///
+/// # Requires
+///
+/// - `order` is a topological order of the nodes of `store`: it contains exactly these, each before
+///   its children.
 ///
 /// # Errors
 ///
@@ -44,8 +49,8 @@ pub fn remove_edges<Ix: IndexType, S: Store<Ix>>(store: &mut S, edges: &[EdgeInd
 /// # Complexity
 ///
 /// One search for each node that the roots reach, which stays before the node's last child in
-/// `order`; or, where that is expected to look at more edges, O(nodes * edges / 512) steps of 512
-/// bits each. Then the removals.
+/// `order`; or, where that is expected to read more edges, O(nodes * edges / 512) steps of 512 bits
+/// each. Then the cost of the removals.
 pub fn transitive_reduce<Ix: IndexType, S: Store<Ix>>(
     store: &mut S,
     order: &Order<Ix>,
@@ -63,15 +68,14 @@ pub fn transitive_reduce<Ix: IndexType, S: Store<Ix>>(
     ensures counted { OnOk result (S.looks store.new ≤ S.looks store.old
         + (node_count (S.graph store.old) + 2) * edge_count (S.graph store.old)) }
     ensures spanned { OnOk result (S.looks store.new ≤ S.looks store.old
-        + 2 * edge_count (S.graph store.old)
+        + 4 * edge_count (S.graph store.old)
         + all_spanned (S.graph store.old) order.now order.now) }
     ensures unlooked { OnErr result (S.looks store.new ≡ S.looks store.old) }
     ensures capacity_kept { scratch.old.nodes ≤ scratch.new.nodes }
 {
-    let nodes = store.node_bound();
-    let edges = store.edge_bound();
-    scratch.reserve(nodes, edges)?;
-    let count = leave_redundant_either_way(store, order, roots, scratch);
+    scratch.reserve(store.node_bound(), store.edge_bound())?;
+    let (nodes, edges) = (store.node_count(), store.edge_count());
+    let count = leave_redundant_either_way(store, order, roots, scratch, nodes, edges);
     remove_edges(store, front(scratch.found.as_slice(), count));
     Ok(())
 }

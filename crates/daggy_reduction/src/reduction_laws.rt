@@ -16,8 +16,8 @@ pub fn reductions_are_alike<N, E, M, F>()
     ensures { AreAlike N E M F }
 {}
 
-/// Every graph with the same reachability as a dag joins the pairs that the dag still joins, after
-/// its reduction, below the roots.
+/// In every graph with the same reachability as a dag, all pairs are adjacent that are still
+/// adjacent in the dag, below the roots, after its reduction.
 ///
 /// The weights have the types `N` and `E` in the dag, and `M` and `F` in the other graph.
 ///

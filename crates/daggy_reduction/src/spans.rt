@@ -1,7 +1,7 @@
 //! How many edges searches would look at, told from the ends of all edges.
 ghost use Rattle.std.specs.Prelude.{◌≡◌, ℕ, ◌+◌, ◌<◌, ◌≤◌, ◌⊎◌, length, take, Contains};
 ghost use Rattle.std.specs.Prelude.{slice_index, slice_index_or, slice_set};
-ghost use Rattle.daggy_base.specs.Graph.{node_bound, out_list};
+ghost use Rattle.daggy_base.specs.Graph.{node_bound, edge_count, out_list};
 ghost use Rattle.daggy_base.specs.Path.{AreJoined};
 ghost use Rattle.daggy_base.specs.Ordered.{IsOrderOf, place};
 ghost use Rattle.daggy_base.specs.WellFormed.{AreDistinct};
@@ -11,7 +11,7 @@ ghost use Rattle.daggy_reduction.specs.Spans.{sum_at};
 
 use daggy_base::index::{EdgeIndex, IndexType, NodeIndex};
 use daggy_base::link::Link;
-use daggy_base::store::Store;
+use daggy_base::source::IndexedSource;
 use daggy_order::order::Order;
 use daggy_search::Worklist;
 
@@ -62,22 +62,29 @@ fn note_edge<Ix: IndexType>(
 }
 
 // Notes how many edges leave each node, and the last child of each.
-fn note_edges<Ix: IndexType, S: Store<Ix>>(store: &S, order: &Order<Ix>, work: &mut Worklist<Ix>)
-    requires ordered { IsOrderOf (S.graph store.now) order.now }
-    requires fits { node_bound (S.graph store.now) ≤ work.old.size }
+fn note_edges<Ix: IndexType, S: IndexedSource<Ix>>(
+    source: &mut S,
+    order: &Order<Ix>,
+    work: &mut Worklist<Ix>,
+)
+    requires ordered { IsOrderOf (S.graph source.old) order.now }
+    requires fits { node_bound (S.graph source.old) ≤ work.old.size }
+    ensures same { S.graph source.new ≡ S.graph source.old }
     ensures degrees { (n : ℕ)
-        → slice_index work.new.cursors n ≤ length (out_list (S.graph store.now) n) }
+        → slice_index work.new.cursors n ≤ length (out_list (S.graph source.old) n) }
     ensures children { (n : ℕ) → (slice_index_or work.new.nodes n Ix.greatest ≡ Ix.greatest)
-        ⊎ AreJoined (S.graph store.now) n (slice_index_or work.new.nodes n Ix.greatest) }
+        ⊎ AreJoined (S.graph source.old) n (slice_index_or work.new.nodes n Ix.greatest) }
+    ensures looked { S.looks source.old ≤ S.looks source.new }
+    ensures counted { S.looks source.new ≤ S.looks source.old + edge_count (S.graph source.old) }
     ensures kept { IsSized work.old.size work.new }
 {
-    let _well_formed = store.node_bound();
+    let _well_formed = source.node_bound();
     work.begin();
     reset(work);
-    let bound = store.edge_bound();
+    let bound = source.edge_bound();
     let mut e = 0;
     'edges: while e < bound {
-        if let Some((a, b)) = store.edge_endpoints(EdgeIndex::new(e)) {
+        if let Some((a, b)) = source.look_at(EdgeIndex::new(e)) {
             note_edge(order, a, b, work);
         }
         e += 1;
@@ -106,18 +113,21 @@ fn sum_before<Ix: IndexType>(order: &Order<Ix>, work: &mut Worklist<Ix>)
 
 // The sum over all nodes of how many edges leave the nodes from each up to its last child, or the
 // greatest number if it is more.
-pub(crate) fn spanned<Ix: IndexType, S: Store<Ix>>(
-    store: &S,
+pub(crate) fn spanned<Ix: IndexType, S: IndexedSource<Ix>>(
+    source: &mut S,
     order: &Order<Ix>,
     work: &mut Worklist<Ix>,
 ) -> usize
-    requires ordered { IsOrderOf (S.graph store.now) order.now }
-    requires fits { node_bound (S.graph store.now) ≤ work.old.size }
-    ensures most { result ≤ all_spanned (S.graph store.now) order.now order.now }
+    requires ordered { IsOrderOf (S.graph source.old) order.now }
+    requires fits { node_bound (S.graph source.old) ≤ work.old.size }
+    ensures same { S.graph source.new ≡ S.graph source.old }
+    ensures most { result ≤ all_spanned (S.graph source.old) order.now order.now }
+    ensures looked { S.looks source.old ≤ S.looks source.new }
+    ensures counted { S.looks source.new ≤ S.looks source.old + edge_count (S.graph source.old) }
     ensures kept { work.new.size ≡ work.old.size }
 {
-    let _well_formed = store.node_bound();
-    note_edges(store, order, work);
+    let _well_formed = source.node_bound();
+    note_edges(source, order, work);
     sum_before(order, work);
     let end = Link::<Ix>::end().index();
     let mut sum = 0usize;

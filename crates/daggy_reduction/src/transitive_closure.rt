@@ -41,7 +41,13 @@ fn join_reached<Ix: IndexType, S: EdgeSource<Ix>>(
     }
 }
 
-/// The pairs of nodes of which a path of one or more edges leads from the first to the second.
+/// The reachability matrix: the pairs of nodes such that a path of one or more edges leads from the
+/// first to the second.
+///
+/// # Requires
+///
+/// - `ordered`: `order` is a topological order of the nodes of `source`: it contains exactly these,
+///   each before its children.
 ///
 /// # Errors
 ///
@@ -49,7 +55,7 @@ fn join_reached<Ix: IndexType, S: EdgeSource<Ix>>(
 ///
 /// # Complexity
 ///
-/// Looks at each edge once, and takes O(node bound / 64) for each. The matrix takes a bit for each
+/// Reads each edge once, and takes O(node bound / 64) for each. The matrix takes a bit for each
 /// pair.
 pub fn transitive_closure<Ix: IndexType, S: EdgeSource<Ix>>(
     source: &mut S,

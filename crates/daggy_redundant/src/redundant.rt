@@ -113,13 +113,37 @@ pub fn front<T>(list: &[T], count: usize) -> &[T]
     &list[..count]
 }
 
-/// The edges that are redundant below some roots, each once, in ascending order.
+/// The edges that are redundant below the given roots, each once, in ascending order.
 ///
 /// The result borrows the scratch, whose capacity does not change.
+///
+/// # Requires
+///
+/// - `acyclic`: `source` has no cycle. Test: `is_acyclic(source, scratch)`.
+/// - `nodes_fit`: `scratch` has room for the nodes of `source`. Test:
+///   `scratch.fits(source.node_bound(), 0)`.
+/// - `edges_fit`: `scratch` has room for the edges of `source`. Test:
+///   `scratch.fits(0, source.edge_bound())`.
 ///
 /// # Complexity
 ///
 /// One search for each node that the roots reach. Does not allocate.
+///
+/// # Examples
+///
+/// ```
+/// let mut graph: DiGraph<&'static str, ()> = DiGraph::new(rt.alloc());
+/// let sow = graph.add_node("sow")?;
+/// let grow = graph.add_node("grow")?;
+/// let reap = graph.add_node("reap")?;
+/// let _ = graph.add_edge(sow, grow, ())?;
+/// let _ = graph.add_edge(grow, reap, ())?;
+/// let direct = graph.add_edge(sow, reap, ())?;
+/// let mut scratch = Scratch::new(rt.alloc());
+/// scratch.reserve(graph.node_count(), graph.edge_count())?;
+/// let redundant = redundant_edges(&mut scratch, &mut graph, &[sow]);
+/// assert!(rt; redundant == [direct].as_slice());
+/// ```
 pub fn redundant_edges<'s, Ix: IndexType, S: EdgeSource<Ix>>(
     scratch: &'s mut Scratch<Ix>,
     source: &mut S,

@@ -5,4 +5,5 @@ pub mod FinishingOrder
 pub mod SearchState
 pub mod SortNodesState
 pub mod RowWords
+pub mod ReadAhead
 pub mod ReversedGraph

@@ -1,14 +1,43 @@
 //! The edges that leave nodes, side by side (CSR). They are read in sequence, where lists of edges
 //! lead all over the memory.
+ghost use Rattle.std.specs.Prelude.{◌≡◌, ◌+◌};
 
 use daggy_base::index::{EdgeIndex, IndexType};
 use daggy_base::link::Link;
+use daggy_base::looks::Looks;
+use daggy_base::source::EdgeSource;
 
-/// An edge as a search by blocks reads it: the place of its child, and its index.
+/// An edge as a search by blocks reads it: the place of its child, and its index. Can be read only
+/// by [`look`](Arc::look).
 #[derive(Clone, Copy, Drop)]
 pub struct Arc<Ix: IndexType> {
-    pub place: Link<Ix>,
-    pub edge: EdgeIndex<Ix>,
+    place: Link<Ix>,
+    edge: EdgeIndex<Ix>,
+}
+
+impl<Ix: IndexType> Arc<Ix> {
+    /// An edge whose child has this place.
+    #[inline]
+    pub fn new(place: Link<Ix>, edge: EdgeIndex<Ix>) -> Self
+        ensures { result ≡ record { place = place; edge = edge } }
+    {
+        Arc { place, edge }
+    }
+
+    /// The place of the child and the index of the edge. Counts a look at the source that the edge
+    /// is of, as if the edge were read there.
+    #[inline]
+    pub fn look<S: EdgeSource<Ix>>(self, source: &mut S) -> (Link<Ix>, EdgeIndex<Ix>)
+        ensures place { result.0 ≡ self.place }
+        ensures edge { result.1 ≡ self.edge }
+        ensures same { S.graph source.new ≡ S.graph source.old }
+        ensures counted { S.looks source.new ≡ S.looks source.old + 1 }
+    {
+        let mut looks = Looks::new();
+        looks.take();
+        source.count_looks(&looks);
+        (self.place, self.edge)
+    }
 }
 
 /// Where the arcs of a node stand in a list of arcs: from the position `begin` on, before `end`.

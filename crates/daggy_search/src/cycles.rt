@@ -11,11 +11,30 @@ use daggy_base::index::{EdgeIndex, IndexType, NodeIndex};
 use daggy_base::link::Link;
 use daggy_base::source::EdgeSource;
 
-/// Whether the graph is acyclic: no path of one or more edges ends where it begins.
+/// Whether the graph is acyclic: no path of one or more edges ends where it begins. The test is a
+/// depth-first search (Tarjan 1972).
+///
+/// # Requires
+///
+/// - `scratch` has room for the nodes of `source`. Test: `scratch.fits(source.node_bound(), 0)`.
 ///
 /// # Complexity
 ///
-/// O(nodes + edges), with at most one look at each edge. Does not allocate.
+/// O(nodes + edges); each edge is read at most once. Does not allocate.
+///
+/// # Examples
+///
+/// ```
+/// let mut graph: DiGraph<&'static str, ()> = DiGraph::new(rt.alloc());
+/// let egg = graph.add_node("egg")?;
+/// let hen = graph.add_node("hen")?;
+/// let _ = graph.add_edge(egg, hen, ())?;
+/// let mut scratch = Scratch::new(rt.alloc());
+/// scratch.reserve(graph.node_count(), 0)?;
+/// assert!(rt; is_acyclic(&mut graph, &mut scratch));
+/// let _ = graph.add_edge(hen, egg, ())?;
+/// assert!(rt; !is_acyclic(&mut graph, &mut scratch));
+/// ```
 pub fn is_acyclic<Ix: IndexType, S: EdgeSource<Ix>>(
     source: &mut S,
     scratch: &mut Scratch<Ix>,

@@ -4,6 +4,7 @@
 mod arcs;
 mod cycles;
 mod reach;
+mod reading;
 mod reversed;
 mod row;
 mod scratch;
@@ -13,6 +14,7 @@ mod worklist;
 pub use arcs::{Arc, Segment};
 pub use cycles::{is_acyclic, sort_nodes};
 pub use reach::reaches;
+pub use reading::Reading;
 pub use reversed::Reversed;
 #[doc(hidden)]
 pub use row::{BLOCK, Row};

@@ -12,10 +12,27 @@ use daggy_base::source::EdgeSource;
 /// Whether a path leads from `from` to `to`. A single node is a path, so an existing node reaches
 /// itself; a missing node reaches nothing.
 ///
+/// # Requires
+///
+/// - `scratch` has room for the nodes of `source`. Test: `scratch.fits(source.node_bound(), 0)`.
+///
 /// # Complexity
 ///
-/// O(nodes and edges visited), with at most one look at each edge. Memory of the scratch that no
-/// search used before is initialised first. Does not allocate.
+/// O(nodes and edges visited); each edge is read at most once. Memory of the scratch that no search
+/// used before is initialised first. Does not allocate.
+///
+/// # Examples
+///
+/// ```
+/// let mut graph: DiGraph<&'static str, ()> = DiGraph::new(rt.alloc());
+/// let egg = graph.add_node("egg")?;
+/// let hen = graph.add_node("hen")?;
+/// let _ = graph.add_edge(egg, hen, ())?;
+/// let mut scratch = Scratch::new(rt.alloc());
+/// scratch.reserve(graph.node_count(), 0)?;
+/// assert!(rt; reaches(&mut graph, egg, hen, &mut scratch));
+/// assert!(rt; !reaches(&mut graph, hen, egg, &mut scratch));
+/// ```
 pub fn reaches<Ix: IndexType, S: EdgeSource<Ix>>(
     source: &mut S,
     from: NodeIndex<Ix>,

@@ -9,13 +9,28 @@ ghost use Rattle.daggy_search.specs.Reversed.{reversed};
 
 use daggy_base::index::{Direction, EdgeIndex, IndexType, NodeIndex};
 use daggy_base::looks::Looks;
+use daggy_base::read_store::ReadStore;
 use daggy_base::source::EdgeSource;
-use daggy_base::store::Store;
 use std::marker::{Model, PhantomData};
 
-/// A store with each edge reversed, so that a search from a node finds what reaches it.
+/// A store that is borrowed to be read against its edges, so that a search from a node finds what
+/// reaches it. Indices are those of the store.
+///
+/// # Examples
+///
+/// ```
+/// let mut graph: DiGraph<&'static str, ()> = DiGraph::new(rt.alloc());
+/// let sow = graph.add_node("sow")?;
+/// let reap = graph.add_node("reap")?;
+/// let _edge = graph.add_edge(sow, reap, ())?;
+/// let mut scratch = Scratch::new(rt.alloc());
+/// scratch.reserve(graph.node_count(), 0)?;
+/// // Against its edge, `reap` comes first.
+/// assert!(rt; reaches(&mut Reversed::new(&graph), reap, sow, &mut scratch));
+/// assert!(rt; !reaches(&mut Reversed::new(&graph), sow, reap, &mut scratch));
+/// ```
 #[derive(Drop)]
-pub struct Reversed<'a, Ix: IndexType, S: Store<Ix>> {
+pub struct Reversed<'a, Ix: IndexType, S: ReadStore<Ix>> {
     store: &'a S,
     looks: Looks,
     // Only for the checker, which looks for the lifetimes of borrowed weights among the fields.
@@ -24,7 +39,7 @@ pub struct Reversed<'a, Ix: IndexType, S: Store<Ix>> {
     edge_weight: PhantomData<S::EdgeWeight>,
 }
 
-impl<'a, Ix: IndexType, S: Store<Ix>> Model for Reversed<'a, Ix, S> {
+impl<'a, Ix: IndexType, S: ReadStore<Ix>> Model for Reversed<'a, Ix, S> {
     ghost use Rattle.daggy_base.specs.State.{State};
     ghost use Rattle.daggy_search.specs.Reversed.{reversed};
 
@@ -33,8 +48,8 @@ impl<'a, Ix: IndexType, S: Store<Ix>> Model for Reversed<'a, Ix, S> {
     ghost view = { λ r. record { graph = reversed (S.graph r.store.now); looks = r.looks.count } };
 }
 
-impl<'a, Ix: IndexType, S: Store<Ix>> Reversed<'a, Ix, S> {
-    /// Reads a store against its edges. No look was taken.
+impl<'a, Ix: IndexType, S: ReadStore<Ix>> Reversed<'a, Ix, S> {
+    /// A view of `store` with all edges reversed, through which no edge was read yet.
     pub fn new(store: &'a S) -> Self
         ensures { result ≡ record { graph = reversed (S.graph store.now); looks = 0 } }
     {
@@ -46,9 +61,24 @@ impl<'a, Ix: IndexType, S: Store<Ix>> Reversed<'a, Ix, S> {
             edge_weight: PhantomData,
         }
     }
+
+    /// The number of edge reads.
+    #[inline]
+    pub fn into_looks(self) -> Looks
+        ensures { result.count ≡ self.entry.looks }
+    {
+        let Reversed {
+            store: _,
+            looks,
+            index: _,
+            node_weight: _,
+            edge_weight: _,
+        } = self;
+        looks
+    }
 }
 
-impl<'a, Ix: IndexType, S: Store<Ix>> EdgeSource<Ix> for Reversed<'a, Ix, S> {
+impl<'a, Ix: IndexType, S: ReadStore<Ix>> EdgeSource<Ix> for Reversed<'a, Ix, S> {
     type NodeWeight = S::NodeWeight;
 
     type EdgeWeight = S::EdgeWeight;
@@ -99,5 +129,13 @@ impl<'a, Ix: IndexType, S: Store<Ix>> EdgeSource<Ix> for Reversed<'a, Ix, S> {
         let next = self.store.next_edge(e, Direction::Incoming);
         let (parent, _) = self.store.edge_endpoints(e).unwrap();
         (parent, next)
+    }
+
+    #[inline]
+    fn count_looks(&mut self, taken: &Looks)
+        ensures same { self.new.graph ≡ self.old.graph }
+        ensures counted { self.new.looks ≡ self.old.looks + taken.now.count }
+    {
+        self.looks.add(taken);
     }
 }

@@ -15,6 +15,18 @@ use std::marker::Model;
 /// A search does not allocate: it uses a scratch that was made large enough before. Memory for
 /// nodes is only reserved then, and initialised by the first search, so a graph that is never
 /// searched pays little for it.
+///
+/// # Examples
+///
+/// ```
+/// let mut graph: DiGraph<&'static str, ()> = DiGraph::new(rt.alloc());
+/// let sow = graph.add_node("sow")?;
+/// let mut scratch = Scratch::new(rt.alloc());
+/// scratch.reserve(graph.node_count(), 0)?;
+/// // From here on searches of this graph do not allocate.
+/// assert!(rt; scratch.fits(graph.node_count(), 0));
+/// assert!(rt; reaches(&mut graph, sow, sow, &mut scratch));
+/// ```
 #[derive(Drop)]
 pub struct Scratch<Ix: IndexType> {
     #[doc(hidden)]
@@ -65,7 +77,8 @@ fn grow_rows(rows: &mut Vec<Row>, len: usize) -> Result<(), AllocError>
 }
 
 impl<Ix: IndexType> Scratch<Ix> {
-    /// Does not allocate; fits only the empty graph.
+    /// An empty scratch, which fits only the empty graph: call [`reserve`](Scratch::reserve) before
+    /// a search. Does not allocate.
     pub fn new(alloc: Global) -> Self
         ensures { result ≡ record { nodes = 0; edges = 0; rows = 0; found = [] } }
     {
@@ -92,8 +105,17 @@ impl<Ix: IndexType> Scratch<Ix> {
         node_bound <= self.work.len() && edge_bound <= self.found.len()
     }
 
-    /// Reserves capacity for graphs of these bounds. It still fits what it fitted before, also
-    /// after an error.
+    /// Makes room for searches of each graph whose `node_bound` and `edge_bound`, one more than its
+    /// greatest indices, are at most these; [`fits`](Scratch::fits) tells whether there is room
+    /// already.
+    ///
+    /// # Errors
+    ///
+    /// Returns `AllocError` if an allocation fails. What it fitted before still fits.
+    ///
+    /// # Complexity
+    ///
+    /// O(`node_bound` + `edge_bound`), if there is not enough room yet.
     #[inline]
     pub fn reserve(&mut self, node_bound: usize, edge_bound: usize) -> Result<(), AllocError>
         ensures ok { OnOk result ((node_bound ≤ self.new.nodes) × (edge_bound ≤ self.new.edges)) }
@@ -125,8 +147,16 @@ impl<Ix: IndexType> Scratch<Ix> {
         Ok(())
     }
 
-    /// Reserves a row for each node below a bound, which a search by blocks needs, 80 bytes each. It
-    /// still fits what it fitted before, also after an error.
+    /// Makes room for searches by blocks of nodes, as `redundant_edges_by_blocks` does them: a row
+    /// of 80 bytes for each node below the bound.
+    ///
+    /// # Errors
+    ///
+    /// Returns `AllocError` if an allocation fails. What it fitted before still fits.
+    ///
+    /// # Complexity
+    ///
+    /// O(`node_bound`), if there is not enough room yet.
     #[inline]
     pub fn reserve_rows(&mut self, node_bound: usize) -> Result<(), AllocError>
         ensures ok { OnOk result (node_bound ≤ self.new.rows) }

@@ -5,6 +5,7 @@ ghost use Rattle.daggy_base.specs.Graph.{empty, edge_at, HasNode, HasEdge, list_
 ghost use Rattle.daggy_base.specs.Graph.{pair_of};
 ghost use Rattle.daggy_base.specs.Finding.{find_edge as edge_between};
 ghost use Rattle.daggy_base.specs.Cursor.{first_of, cursor_after};
+ghost use Rattle.daggy_base.specs.Path.{AreJoined};
 
 mod adding;
 mod building;
@@ -43,6 +44,20 @@ use std::marker::Model;
 /// and makes a new slot only if none is vacant. All operations are O(1) unless stated otherwise.
 ///
 /// `Ix` is the integer type of the indices. It limits the number of nodes and the number of edges.
+///
+/// # Examples
+///
+/// ```
+/// let mut graph: StableDiGraph<&'static str, u32> = StableDiGraph::new(rt.alloc());
+/// let egg = graph.add_node("egg")?;
+/// let hen = graph.add_node("hen")?;
+/// let _ = graph.add_edge(egg, hen, 21)?;
+/// // A store may hold cycles.
+/// let back = graph.add_edge(hen, egg, 1)?;
+/// assert!(rt; graph.neighbors(egg).next() == Some(hen));
+/// assert!(rt; graph.remove_edge(back) == Some(1));
+/// assert!(rt; graph.neighbors(hen).next().is_none());
+/// ```
 #[derive(Drop)]
 pub struct StableDiGraph<N, E, Ix: IndexType = DefaultIx> {
     nodes: Vec<Node<Option<N>, Ix>>,
@@ -99,7 +114,7 @@ impl<N, E, Ix: IndexType> StableDiGraph<N, E, Ix> {
 
     /// Whether the edge exists.
     #[inline]
-    pub fn contains_edge(&self, e: EdgeIndex<Ix>) -> bool
+    pub fn contains_edge_index(&self, e: EdgeIndex<Ix>) -> bool
         ensures { IsTrue result ↔ HasEdge self.now.graph (Ix.number e) }
     {
         self.edge_weight(e).is_some()
@@ -143,6 +158,10 @@ impl<N, E, Ix: IndexType> StableDiGraph<N, E, Ix> {
 
     /// The edge after this one in the out list of its parent, or in the in list of its child, or
     /// `end` if it is the last.
+    ///
+    /// # Requires
+    ///
+    /// - `e` is an edge of the graph. Test: `contains_edge_index(e)`.
     #[inline]
     pub fn next_edge(&self, e: EdgeIndex<Ix>, dir: Direction) -> EdgeIndex<Ix>
         requires { HasEdge self.now.graph (Ix.number e) }
@@ -166,5 +185,17 @@ impl<N, E, Ix: IndexType> StableDiGraph<N, E, Ix> {
         let first = self.first_edge(a, Direction::Outgoing);
         let e = find_to(&self.edges, Link::of_edge(first), b.index())?;
         Some(e.edge())
+    }
+
+    /// Whether an edge leads from `a` to `b`.
+    ///
+    /// # Complexity
+    ///
+    /// O(edges out of `a`).
+    pub fn contains_edge(&self, a: NodeIndex<Ix>, b: NodeIndex<Ix>) -> bool
+        ensures { IsTrue result ↔ AreJoined self.now.graph (Ix.number a) (Ix.number b) }
+    {
+        let _well_formed = self.edge_count();
+        self.find_edge(a, b).is_some()
     }
 }

@@ -14,3 +14,4 @@ pub mod Seeking
 pub mod GoingDown
 pub mod Postorder
 pub mod Reaching
+pub mod Reweighed

@@ -3,3 +3,4 @@ pub mod Breadth
 pub mod Depth
 pub mod Postorder
 pub mod Fused
+pub mod Reweighed

@@ -11,7 +11,7 @@ ghost use Rattle.daggy_traversal.specs.Breadth.{next_in_breadth, fresh};
 use crate::neighbors::next_neighbor;
 use daggy_base::index::{DefaultIx, Direction, IndexType, NodeIndex};
 use daggy_base::link::Link;
-use daggy_base::store::Store;
+use daggy_base::read_store::ReadStore;
 use daggy_visit::visit::NodeSet;
 use daggy_walk::walker::{FiniteWalker, FusedWalker, Walker};
 use std::alloc::{AllocError, Global};
@@ -21,11 +21,13 @@ use std::marker::Model;
 /// The nodes that a node reaches, breadth first: a node that fewer edges lead to comes earlier.
 ///
 /// It does not borrow the graph; each step borrows it for that step. Until the walk ends, no node
-/// and no edge may be added or removed. With [`iter`](Walker::iter) it walks on as an iterator,
-/// which borrows the graph.
+/// and no edge may be added or removed. Weights may be written: what the next call requires still
+/// holds then, by the lemmas in `proofs/Reweighed.antt`. [`iter`](Walker::iter) turns it into an
+/// iterator, which borrows the graph.
 ///
-/// The calls say that the walk on this graph is under way, and ask for that. A struct that keeps
-/// both states it once, as `ghost under_way: { IsBreadthFirst (S.graph graph.now) walk }`.
+/// For proofs: [`next`](Bfs::next) requires that no node or edge was added or removed since
+/// [`new`](Bfs::new), and guarantees it to the next call. A struct that has both the graph and this
+/// walk states it once, as a field `ghost under_way: { IsBreadthFirst (S.graph graph.now) walk }`.
 ///
 /// # Complexity
 ///
@@ -89,7 +91,7 @@ impl<Ix: IndexType> Bfs<Ix> {
     /// # Complexity
     ///
     /// O(nodes / 64).
-    pub fn new<S: Store<Ix>>(
+    pub fn new<S: ReadStore<Ix>>(
         alloc: Global,
         graph: &S,
         start: NodeIndex<Ix>,
@@ -121,10 +123,15 @@ impl<Ix: IndexType> Bfs<Ix> {
     /// The start comes first. The neighbors of a node come in the order of its list, after those of
     /// each node that came before it.
     ///
+    /// # Requires
+    ///
+    /// - The walk was started over this `graph`, and no node or edge has been added or removed
+    ///   since. Weights may have been written.
+    ///
     /// # Complexity
     ///
     /// O(edges in the list of the node).
-    pub fn next<S: Store<Ix>>(&mut self, graph: &S) -> Option<NodeIndex<Ix>>
+    pub fn next<S: ReadStore<Ix>>(&mut self, graph: &S) -> Option<NodeIndex<Ix>>
         requires { IsBreadthFirst (S.graph graph.now) self.old }
         ensures next { option_map Ix.number result
             ≡ next_in_breadth (S.graph graph.now) self.old.dir self.old.start self.old.given }
@@ -153,7 +160,7 @@ impl<Ix: IndexType> Bfs<Ix> {
     }
 }
 
-impl<Ix: IndexType, S: Store<Ix>> Walker<S> for Bfs<Ix> {
+impl<Ix: IndexType, S: ReadStore<Ix>> Walker<S> for Bfs<Ix> {
     type Item = NodeIndex<Ix>;
 
     ghost can_walk = { λ w g. IsBreadthFirst (S.graph g) w };
@@ -168,18 +175,18 @@ impl<Ix: IndexType, S: Store<Ix>> Walker<S> for Bfs<Ix> {
     }
 }
 
-impl<Ix: IndexType, S: Store<Ix>> FiniteWalker<S> for Bfs<Ix> {
+impl<Ix: IndexType, S: ReadStore<Ix>> FiniteWalker<S> for Bfs<Ix> {
     ghost ends = { λ w g. tt };
 }
 
-impl<Ix: IndexType, S: Store<Ix>> FusedWalker<S> for Bfs<Ix> {
+impl<Ix: IndexType, S: ReadStore<Ix>> FusedWalker<S> for Bfs<Ix> {
     ghost use Rattle.daggy_traversal.specs.Fused.{step_rests};
 
     ghost rests = { λ g w t u r a b. step_rests Ix.number r a.dir a.start a.step b.step };
 }
 
 // Queues the neighbors of a node that were not met.
-fn meet_neighbors<Ix: IndexType, S: Store<Ix>>(
+fn meet_neighbors<Ix: IndexType, S: ReadStore<Ix>>(
     graph: &S,
     dir: Direction,
     n: NodeIndex<Ix>,

@@ -12,7 +12,7 @@ use crate::given::Given;
 use crate::neighbors::next_new;
 use daggy_base::index::{DefaultIx, Direction, EdgeIndex, IndexType, NodeIndex};
 use daggy_base::link::Link;
-use daggy_base::store::Store;
+use daggy_base::read_store::ReadStore;
 use daggy_visit::prefetch::touch_edge;
 use daggy_visit::visit::NodeSet;
 use daggy_walk::walker::{FiniteWalker, FusedWalker, Walker};
@@ -24,11 +24,13 @@ use std::marker::Model;
 /// are reached through it.
 ///
 /// It does not borrow the graph; each step borrows it for that step. Until the walk ends, no node
-/// and no edge may be added or removed. With [`iter`](Walker::iter) it walks on as an iterator,
-/// which borrows the graph.
+/// and no edge may be added or removed. Weights may be written: what the next call requires still
+/// holds then, by the lemmas in `proofs/Reweighed.antt`. [`iter`](Walker::iter) turns it into an
+/// iterator, which borrows the graph.
 ///
-/// The calls say that the walk on this graph is under way, and ask for that. A struct that keeps
-/// both states it once, as `ghost under_way: { IsDepthFirst (S.graph graph.now) walk }`.
+/// For proofs: [`next`](Dfs::next) requires that no node or edge was added or removed since
+/// [`new`](Dfs::new), and guarantees it to the next call. A struct that has both the graph and this
+/// walk states it once, as a field `ghost under_way: { IsDepthFirst (S.graph graph.now) walk }`.
 ///
 /// # Complexity
 ///
@@ -98,7 +100,7 @@ impl<Ix: IndexType> Dfs<Ix> {
     /// # Complexity
     ///
     /// O(nodes / 64).
-    pub fn new<S: Store<Ix>>(
+    pub fn new<S: ReadStore<Ix>>(
         alloc: Global,
         graph: &S,
         start: NodeIndex<Ix>,
@@ -127,10 +129,15 @@ impl<Ix: IndexType> Dfs<Ix> {
     /// The start comes first. After that, the next node is the first new neighbor, in the order of
     /// the list, of the latest node that still has one.
     ///
+    /// # Requires
+    ///
+    /// - The walk was started over this `graph`, and no node or edge has been added or removed
+    ///   since. Weights may have been written.
+    ///
     /// # Complexity
     ///
     /// O(nodes + edges) for all calls together.
-    pub fn next<S: Store<Ix>>(&mut self, graph: &S) -> Option<NodeIndex<Ix>>
+    pub fn next<S: ReadStore<Ix>>(&mut self, graph: &S) -> Option<NodeIndex<Ix>>
         requires { IsDepthFirst (S.graph graph.now) self.old }
         ensures next { option_map Ix.number result
             ≡ next_in_depth (S.graph graph.now) self.old.dir self.old.start self.old.given }
@@ -166,7 +173,7 @@ impl<Ix: IndexType> Dfs<Ix> {
     }
 }
 
-impl<Ix: IndexType, S: Store<Ix>> Walker<S> for Dfs<Ix> {
+impl<Ix: IndexType, S: ReadStore<Ix>> Walker<S> for Dfs<Ix> {
     type Item = NodeIndex<Ix>;
 
     ghost can_walk = { λ w g. IsDepthFirst (S.graph g) w };
@@ -181,11 +188,11 @@ impl<Ix: IndexType, S: Store<Ix>> Walker<S> for Dfs<Ix> {
     }
 }
 
-impl<Ix: IndexType, S: Store<Ix>> FiniteWalker<S> for Dfs<Ix> {
+impl<Ix: IndexType, S: ReadStore<Ix>> FiniteWalker<S> for Dfs<Ix> {
     ghost ends = { λ w g. tt };
 }
 
-impl<Ix: IndexType, S: Store<Ix>> FusedWalker<S> for Dfs<Ix> {
+impl<Ix: IndexType, S: ReadStore<Ix>> FusedWalker<S> for Dfs<Ix> {
     ghost use Rattle.daggy_traversal.specs.Fused.{step_rests};
 
     ghost rests = { λ g w t u r a b. step_rests Ix.number r a.dir a.start a.step b.step };
@@ -193,7 +200,7 @@ impl<Ix: IndexType, S: Store<Ix>> FusedWalker<S> for Dfs<Ix> {
 
 // Adds a cursor at the edge `e`, unless the list is at its end there.
 #[inline]
-fn push_cursor<Ix: IndexType, S: Store<Ix>>(
+fn push_cursor<Ix: IndexType, S: ReadStore<Ix>>(
     graph: &S,
     _dir: Direction,
     cursors: &mut Vec<Link<Ix>>,
@@ -216,7 +223,7 @@ fn push_cursor<Ix: IndexType, S: Store<Ix>>(
 // taken back if the list is at its end. (Where a list begins a branch is better: memory is read on
 // as predicted, before it is known whether the node has any edges.)
 #[inline]
-fn push_rest<Ix: IndexType, S: Store<Ix>>(
+fn push_rest<Ix: IndexType, S: ReadStore<Ix>>(
     graph: &S,
     _dir: Direction,
     cursors: &mut Vec<Link<Ix>>,
@@ -238,7 +245,7 @@ fn push_rest<Ix: IndexType, S: Store<Ix>>(
 
 // Advances the cursors to the first neighbor that was not given, and returns it. If it has neighbors
 // itself, its cursor is then the last one.
-fn advance<Ix: IndexType, S: Store<Ix>>(
+fn advance<Ix: IndexType, S: ReadStore<Ix>>(
     graph: &S,
     dir: Direction,
     cursors: &mut Vec<Link<Ix>>,

@@ -5,13 +5,13 @@ ghost use Rattle.daggy_traversal.specs.Traversal.{IsNeighbor, AreMarked, far_of,
 ghost use Rattle.daggy_traversal.specs.Traversal.{without_old};
 
 use daggy_base::index::{Direction, EdgeIndex, IndexType, NodeIndex};
-use daggy_base::store::Store;
+use daggy_base::read_store::ReadStore;
 use daggy_visit::visit::NodeSet;
 
 /// The node at the far end of the edge `e`, and the edge after `e` in its list, or `end`. Returns
 /// `None` if there is no edge `e`.
 #[inline]
-pub fn next_neighbor<Ix: IndexType, S: Store<Ix>>(
+pub fn next_neighbor<Ix: IndexType, S: ReadStore<Ix>>(
     graph: &S,
     dir: Direction,
     e: EdgeIndex<Ix>,
@@ -42,7 +42,7 @@ fn far_end<Ix: IndexType>(
 /// The first neighbor that was not met, from the edge `e` on, and the edge after it. Returns `None`
 /// if there is none.
 #[inline]
-pub fn next_new<Ix: IndexType, S: Store<Ix>>(
+pub fn next_new<Ix: IndexType, S: ReadStore<Ix>>(
     graph: &S,
     dir: Direction,
     e: EdgeIndex<Ix>,

@@ -12,7 +12,7 @@ use crate::given::Given;
 use crate::neighbors::next_new;
 use daggy_base::index::{DefaultIx, Direction, IndexType, NodeIndex};
 use daggy_base::link::Link;
-use daggy_base::store::Store;
+use daggy_base::read_store::ReadStore;
 use daggy_visit::visit::NodeSet;
 use daggy_walk::walker::{FiniteWalker, FusedWalker, Walker};
 use std::alloc::{AllocError, Global};
@@ -23,11 +23,14 @@ use std::marker::Model;
 /// neighbors, except for those that lead back to it.
 ///
 /// It does not borrow the graph; each step borrows it for that step. Until the walk ends, no node
-/// and no edge may be added or removed. With [`iter`](Walker::iter) it walks on as an iterator,
-/// which borrows the graph.
+/// and no edge may be added or removed. Weights may be written: what the next call requires still
+/// holds then, by the lemmas in `proofs/Reweighed.antt`. [`iter`](Walker::iter) turns it into an
+/// iterator, which borrows the graph.
 ///
-/// The calls say that the walk on this graph is under way, and ask for that. A struct that keeps
-/// both states it once, as `ghost under_way: { IsPostorder (S.graph graph.now) walk }`.
+/// For proofs: [`next`](DfsPostOrder::next) requires that no node or edge was added or removed
+/// since [`new`](DfsPostOrder::new), and guarantees it to the next call. A struct that has both the
+/// graph and this walk states it once, as a field
+/// `ghost under_way: { IsPostorder (S.graph graph.now) walk }`.
 ///
 /// # Complexity
 ///
@@ -97,7 +100,7 @@ impl<Ix: IndexType> DfsPostOrder<Ix> {
     /// # Complexity
     ///
     /// O(nodes / 64).
-    pub fn new<S: Store<Ix>>(
+    pub fn new<S: ReadStore<Ix>>(
         alloc: Global,
         graph: &S,
         start: NodeIndex<Ix>,
@@ -135,10 +138,15 @@ impl<Ix: IndexType> DfsPostOrder<Ix> {
     /// the list, until a node has none. It returns that node, and goes back up. The start comes
     /// last.
     ///
+    /// # Requires
+    ///
+    /// - The walk was started over this `graph`, and no node or edge has been added or removed
+    ///   since. Weights may have been written.
+    ///
     /// # Complexity
     ///
     /// O(nodes + edges) for all calls together.
-    pub fn next<S: Store<Ix>>(&mut self, graph: &S) -> Option<NodeIndex<Ix>>
+    pub fn next<S: ReadStore<Ix>>(&mut self, graph: &S) -> Option<NodeIndex<Ix>>
         requires { IsPostorder (S.graph graph.now) self.old }
         ensures next { IfSome result (λ n. GivesLast self.old.dir (S.graph graph.now)
             self.old.given self.old.path self.new.path (Ix.number n)) }
@@ -172,7 +180,7 @@ impl<Ix: IndexType> DfsPostOrder<Ix> {
     }
 }
 
-impl<Ix: IndexType, S: Store<Ix>> Walker<S> for DfsPostOrder<Ix> {
+impl<Ix: IndexType, S: ReadStore<Ix>> Walker<S> for DfsPostOrder<Ix> {
     type Item = NodeIndex<Ix>;
 
     ghost can_walk = { λ w g. IsPostorder (S.graph g) w };
@@ -187,18 +195,18 @@ impl<Ix: IndexType, S: Store<Ix>> Walker<S> for DfsPostOrder<Ix> {
     }
 }
 
-impl<Ix: IndexType, S: Store<Ix>> FiniteWalker<S> for DfsPostOrder<Ix> {
+impl<Ix: IndexType, S: ReadStore<Ix>> FiniteWalker<S> for DfsPostOrder<Ix> {
     ghost ends = { λ w g. tt };
 }
 
-impl<Ix: IndexType, S: Store<Ix>> FusedWalker<S> for DfsPostOrder<Ix> {
+impl<Ix: IndexType, S: ReadStore<Ix>> FusedWalker<S> for DfsPostOrder<Ix> {
     ghost use Rattle.daggy_traversal.specs.Fused.{step_rests};
 
     ghost rests = { λ g w t u r a b. step_rests Ix.number r a.dir a.start a.step b.step };
 }
 
 // Goes down to a node all of whose neighbors were met, and gives it.
-fn descend<Ix: IndexType, S: Store<Ix>>(
+fn descend<Ix: IndexType, S: ReadStore<Ix>>(
     graph: &S,
     dir: Direction,
     path: &mut Vec<Link<Ix>>,

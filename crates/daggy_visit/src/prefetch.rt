@@ -7,7 +7,7 @@ ghost use Rattle.std.specs.Prelude.{IsTrue, IfSome};
 
 use crate::walk::step;
 use daggy_base::index::{Direction, EdgeIndex, IndexType, NodeIndex};
-use daggy_base::store::Store;
+use daggy_base::read_store::ReadStore;
 
 /// The number of edges from which on a graph is expected not to fit the second-level cache, so that
 /// a prefetch pays.
@@ -18,7 +18,7 @@ const MOST: usize = 512;
 
 /// Reads an edge that is followed later. The answer is always true.
 #[inline]
-pub fn touch_edge<Ix: IndexType, S: Store<Ix>>(graph: &S, e: EdgeIndex<Ix>) -> bool
+pub fn touch_edge<Ix: IndexType, S: ReadStore<Ix>>(graph: &S, e: EdgeIndex<Ix>) -> bool
     ensures { IsTrue result }
 {
     graph.invariant();
@@ -31,7 +31,7 @@ pub fn touch_edge<Ix: IndexType, S: Store<Ix>>(graph: &S, e: EdgeIndex<Ix>) -> b
 // Moves a cursor to the edge after it in its list. Returns `None` if there is no edge at the cursor,
 // and else whether the edge has a parent, which is always true.
 #[inline]
-fn touch_next<Ix: IndexType, S: Store<Ix>>(
+fn touch_next<Ix: IndexType, S: ReadStore<Ix>>(
     graph: &S,
     dir: Direction,
     cursor: &mut usize,
@@ -43,7 +43,7 @@ fn touch_next<Ix: IndexType, S: Store<Ix>>(
         return None;
     }
     let e = EdgeIndex::new(*cursor);
-    if !graph.contains_edge(e) {
+    if !graph.contains_edge_index(e) {
         return None;
     }
     let answer = touch_edge(graph, e);
@@ -54,7 +54,7 @@ fn touch_next<Ix: IndexType, S: Store<Ix>>(
 /// Reads lists side by side from the edges with these indices on, if the graph is large, until one
 /// list is left or 512 edges of each are read. The answer is always true.
 #[inline(never)]
-pub fn touch_lists<Ix: IndexType, S: Store<Ix>>(
+pub fn touch_lists<Ix: IndexType, S: ReadStore<Ix>>(
     graph: &S,
     dir: Direction,
     cursors: &mut [usize],
@@ -83,7 +83,7 @@ pub fn touch_lists<Ix: IndexType, S: Store<Ix>>(
 
 /// Reads up to `most` edges of a list of a node. The answer is always true.
 #[inline]
-pub fn touch_list<Ix: IndexType, S: Store<Ix>>(
+pub fn touch_list<Ix: IndexType, S: ReadStore<Ix>>(
     graph: &S,
     n: NodeIndex<Ix>,
     dir: Direction,
@@ -98,12 +98,12 @@ pub fn touch_list<Ix: IndexType, S: Store<Ix>>(
         if e.index() == end {
             return true;
         }
-        if !graph.contains_edge(e) {
+        if !graph.contains_edge_index(e) {
             return false;
         }
         e = graph.next_edge(e, dir);
     }
-    e.index() == end || graph.contains_edge(e)
+    e.index() == end || graph.contains_edge_index(e)
 }
 
 /// Reads where the list of each neighbor of a node begins. The answer is always true.
@@ -111,7 +111,7 @@ pub fn touch_list<Ix: IndexType, S: Store<Ix>>(
 /// A removal of the node's edges reads the same list heads, and each read waits for the removal
 /// before it; these reads wait only for the walk along the node's own list.
 #[inline]
-pub fn touch_neighbors<Ix: IndexType, S: Store<Ix>>(
+pub fn touch_neighbors<Ix: IndexType, S: ReadStore<Ix>>(
     graph: &S,
     n: NodeIndex<Ix>,
     dir: Direction,

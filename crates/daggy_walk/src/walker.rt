@@ -1,4 +1,8 @@
 //! Walkers: iterators that borrow their graph only while they take a step.
+//!
+//! The adapters work like the adapters of `Iterator`: [`Chain`], [`Cycle`], [`Filter`],
+//! [`Inspect`], [`Peekable`], [`Skip`], [`SkipWhile`], [`Take`] and [`TakeWhile`]. In a
+//! [`Recursive`] walk a closure chooses each step. [`Walker::iter`] turns a walk into an iterator.
 ghost use Rattle.std.specs.Prelude.{◌≡◌, Option, None, IfSome, ⊤};
 ghost use Rattle.std.specs.Iterator.{Count, IsFinite, UpTo, endless};
 ghost use Rattle.daggy_walk.specs.Fused.{Rests};
@@ -34,6 +38,23 @@ pub use take_while::TakeWhile;
 ///
 /// A walker works like an iterator, but each step borrows the graph again. So the graph may change
 /// between steps, and weights may be written on the way.
+///
+/// # Examples
+///
+/// ```
+/// let mut dag: Dag<&'static str, u32> = Dag::new(rt.alloc());
+/// let sow = dag.add_node("sow")?;
+/// let (_, reap) = dag.add_child(sow, 90, "reap")?;
+/// let (_, water) = dag.add_child(sow, 1, "water")?;
+///
+/// // The newest edge comes first. Each step borrows the dag again.
+/// let mut walk = dag.children(sow);
+/// assert!(rt; walk.walk_next(&dag).is_some_and(|step| step.1 == water));
+/// assert!(rt; walk.walk_next(&dag).is_some_and(|step| step.1 == reap));
+/// assert!(rt; walk.walk_next(&dag).is_none());
+/// // As an iterator, which borrows the dag for the whole walk.
+/// assert!(rt; dag.children(sow).iter(&dag).count() == 2);
+/// ```
 pub trait Walker<G>: Drop {
     /// The items of the walk.
     type Item;
@@ -49,13 +70,27 @@ pub trait Walker<G>: Drop {
     ghost items_left: { Self → G → Count } = { λ _ _. endless };
 
     /// Takes one step. Returns `None` if there is nowhere to go in this graph.
+    ///
+    /// # Requires
+    ///
+    /// - The walker may take a step over `graph`: always if it calls no closure, and otherwise if
+    ///   its closure may be called with the next item.
+    ///
+    /// # Complexity
+    ///
+    /// O(1) for `Children` and `Parents`. An adapter takes steps of the walkers that it wraps; one
+    /// that skips items may take several of them for one step of its own.
     fn walk_next(&mut self, graph: &G) -> Option<Self::Item>
         requires { can_walk self.old graph.now }
         ensures steps { walk_gives self.old graph.now result self.new }
         ensures goes { Proceeds (λ w. can_walk w graph.now) (λ w. items_left w graph.now) self.old
             result self.new };
 
-    /// An upper bound on the remaining items, if known.
+    /// An upper bound on the number of items that are left, or `None` if none is known.
+    ///
+    /// # Complexity
+    ///
+    /// O(1), or for an adapter the cost of the same method of the walkers that it wraps.
     #[inline]
     fn upper_bound(&self, graph: &G) -> Option<usize>
         ensures bounded { IfSome result (UpTo (items_left self.now graph.now)) }
@@ -76,7 +111,7 @@ pub trait Walker<G>: Drop {
     }
 }
 
-/// A walker that ends over each graph, as long as the graph does not change.
+/// A walker that ends over any graph that does not change during the walk.
 pub trait FiniteWalker<G>: Walker<G> {
     /// Does nothing. Called only for its postcondition: the walk ends.
     #[inline]

@@ -14,6 +14,10 @@ impl<N, E, Ix: IndexType> DiGraph<N, E, Ix> {
     ///
     /// Returns `AllocError` if an allocation fails, or if the capacity exceeds what a machine can
     /// address.
+    ///
+    /// # Complexity
+    ///
+    /// O(1), plus the allocations.
     pub fn with_capacity(alloc: Global, nodes: usize, edges: usize) -> Result<Self, AllocError>
     where
         N: Drop,
@@ -35,6 +39,10 @@ impl<N, E, Ix: IndexType> DiGraph<N, E, Ix> {
     ///
     /// Returns `AllocError` if an allocation fails, or if the capacity exceeds what a machine can
     /// address; the graph is unchanged.
+    ///
+    /// # Complexity
+    ///
+    /// O(nodes) if a buffer has to be moved, and O(1) otherwise.
     pub fn reserve_nodes(&mut self, additional: usize) -> Result<(), AllocError>
         ensures same { self.new ≡ self.old }
         ensures fits { OnOk result (length self.new.graph.nodes + additional < 2 ^ 63) }
@@ -48,6 +56,10 @@ impl<N, E, Ix: IndexType> DiGraph<N, E, Ix> {
     ///
     /// Returns `AllocError` if an allocation fails, or if the capacity exceeds what a machine can
     /// address; the graph is unchanged.
+    ///
+    /// # Complexity
+    ///
+    /// O(nodes) if a buffer has to be moved, and O(1) otherwise.
     pub fn reserve_exact_nodes(&mut self, additional: usize) -> Result<(), AllocError>
         ensures same { self.new ≡ self.old }
         ensures fits { OnOk result (length self.new.graph.nodes + additional < 2 ^ 63) }
@@ -61,6 +73,10 @@ impl<N, E, Ix: IndexType> DiGraph<N, E, Ix> {
     ///
     /// Returns `AllocError` if an allocation fails, or if the capacity exceeds what a machine can
     /// address; the graph is unchanged.
+    ///
+    /// # Complexity
+    ///
+    /// O(edges) if a buffer has to be moved, and O(1) otherwise.
     pub fn reserve_edges(&mut self, additional: usize) -> Result<(), AllocError>
         ensures same { self.new ≡ self.old }
         ensures fits { OnOk result (length self.new.graph.edges + additional < 2 ^ 63) }
@@ -74,6 +90,10 @@ impl<N, E, Ix: IndexType> DiGraph<N, E, Ix> {
     ///
     /// Returns `AllocError` if an allocation fails, or if the capacity exceeds what a machine can
     /// address; the graph is unchanged.
+    ///
+    /// # Complexity
+    ///
+    /// O(edges) if a buffer has to be moved, and O(1) otherwise.
     pub fn reserve_exact_edges(&mut self, additional: usize) -> Result<(), AllocError>
         ensures same { self.new ≡ self.old }
         ensures fits { OnOk result (length self.new.graph.edges + additional < 2 ^ 63) }
@@ -87,6 +107,10 @@ impl<N, E, Ix: IndexType> DiGraph<N, E, Ix> {
     ///
     /// Returns `AllocError` if a reallocation fails; that buffer keeps its size, and the graph is
     /// unchanged.
+    ///
+    /// # Complexity
+    ///
+    /// O(nodes + edges) if a buffer has to be moved, and O(1) otherwise.
     pub fn shrink_to_fit(&mut self) -> Result<(), AllocError>
         ensures { self.new ≡ self.old }
     {
@@ -102,6 +126,10 @@ impl<N, E, Ix: IndexType> DiGraph<N, E, Ix> {
     ///
     /// Returns `AllocError` if the reallocation fails; the buffer keeps its size, and the graph is
     /// unchanged.
+    ///
+    /// # Complexity
+    ///
+    /// O(nodes) if a buffer has to be moved, and O(1) otherwise.
     pub fn shrink_to_fit_nodes(&mut self) -> Result<(), AllocError>
         ensures { self.new ≡ self.old }
     {
@@ -118,6 +146,10 @@ impl<N, E, Ix: IndexType> DiGraph<N, E, Ix> {
     ///
     /// Returns `AllocError` if the reallocation fails; the buffer keeps its size, and the graph is
     /// unchanged.
+    ///
+    /// # Complexity
+    ///
+    /// O(edges) if a buffer has to be moved, and O(1) otherwise.
     pub fn shrink_to_fit_edges(&mut self) -> Result<(), AllocError>
         ensures { self.new ≡ self.old }
     {

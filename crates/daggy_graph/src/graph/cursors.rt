@@ -9,7 +9,7 @@ ghost use Rattle.daggy_graph.specs.Cursors.{nodes_lend_next, edges_lend_next};
 use crate::graph::DiGraph;
 use daggy_base::index::{DefaultIx, EdgeIndex, IndexType, NodeIndex};
 
-/// Mutable references to the weights of the nodes, one at a time, by ascending index.
+/// Mutable references to the weights of the nodes, one at a time, in ascending index order.
 ///
 /// A lending cursor, not an `Iterator`: each reference must end before the next call.
 #[derive(Drop)]
@@ -18,7 +18,7 @@ pub struct NodeWeightsMut<'a, N, E, Ix: IndexType = DefaultIx> {
     index: usize,
 }
 
-/// Mutable references to the weights of the edges, one at a time, by ascending index.
+/// Mutable references to the weights of the edges, one at a time, in ascending index order.
 ///
 /// A lending cursor, not an `Iterator`: each reference must end before the next call.
 #[derive(Drop)]
@@ -28,7 +28,7 @@ pub struct EdgeWeightsMut<'a, N, E, Ix: IndexType = DefaultIx> {
 }
 
 impl<N, E, Ix: IndexType> DiGraph<N, E, Ix> {
-    /// A cursor over mutable references to the weights of the nodes, by ascending index.
+    /// A cursor over mutable references to the weights of the nodes, in ascending index order.
     #[inline]
     pub fn node_weights_mut(&mut self) -> NodeWeightsMut<'_, N, E, Ix>
         ensures same_reference { result.graph.ghost_name ≡ self.entry.ghost_name }
@@ -41,7 +41,7 @@ impl<N, E, Ix: IndexType> DiGraph<N, E, Ix> {
         }
     }
 
-    /// A cursor over mutable references to the weights of the edges, by ascending index.
+    /// A cursor over mutable references to the weights of the edges, in ascending index order.
     #[inline]
     pub fn edge_weights_mut(&mut self) -> EdgeWeightsMut<'_, N, E, Ix>
         ensures same_reference { result.graph.ghost_name ≡ self.entry.ghost_name }

@@ -163,11 +163,18 @@ fn filter_edges<N, E, W, Ix: IndexType, G: FnMut(EdgeIndex<Ix>, &E) -> Option<W>
 
 impl<N, E, Ix: IndexType> DiGraph<N, E, Ix> {
     /// A graph of the nodes and edges for which the closures return a weight: `f` is called with
-    /// each node by ascending index, and then `g` with each edge whose endpoints were both kept.
+    /// each node in ascending index order, and then `g` with each edge whose endpoints were both
+    /// kept.
     ///
     /// The nodes that are kept get new indices from 0 on, in their old order. The edges that are
-    /// kept are added by ascending index, so each list is in descending index order. If nothing is
-    /// left out, each node and edge keeps its index.
+    /// kept are added in ascending index order, so each list is in descending index order. If
+    /// nothing is left out, each node and edge keeps its index.
+    ///
+    /// # Requires
+    ///
+    /// - `nodes`: `f` may be called with each node and its weight, in ascending index order.
+    /// - `edges`: `g` may be called with the edges that are kept and their weights, in ascending
+    ///   index order, whichever edges these are.
     ///
     /// # Errors
     ///

@@ -68,10 +68,16 @@ fn make_edges<N, E: Drop, Ix: IndexType>(
 }
 
 impl<N, E, Ix: IndexType> DiGraph<N, E, Ix> {
-    /// A graph of explicit slots, none of them vacant. An edge slot has the parent, the child and
-    /// the weight.
+    /// Builds a graph from explicit slots, none of them vacant. An edge slot has the parent, the
+    /// child and the weight.
     ///
     /// Each list is in descending index order.
+    ///
+    /// # Requires
+    ///
+    /// - `makes_graph`: The index type has an index for each slot, and both ends of each edge are
+    ///   nodes: slots that are not `None`.
+    /// - `full`: No slot is `None`.
     ///
     /// # Errors
     ///

@@ -1,6 +1,7 @@
 //! Iterators over the nodes and the edges.
 ghost use Rattle.std.specs.Prelude.{◌≡◌, ◌<◌, ◌^◌, length};
-ghost use Rattle.std.specs.Iterator.{YieldsFirstRef, YieldsFirstBy, item_count};
+ghost use Rattle.std.specs.Iterator.{YieldsFirstRef, YieldsFirstBy, YieldsLastRef, YieldsLastBy};
+ghost use Rattle.std.specs.Iterator.{item_count};
 ghost use Rattle.daggy_cells.specs.Referring.{referred};
 ghost use Rattle.daggy_cells.specs.Fields.{plain};
 ghost use Rattle.daggy_base.specs.Iterating.{node_weights as node_weights_of};
@@ -16,10 +17,11 @@ use daggy_base::link::Link;
 use daggy_cells::reference::EdgeReference;
 use std::alloc::AllocError;
 use std::fmt;
-use std::iter::{ExactSizeIterator, FusedIterator};
+use std::iter::{DoubleEndedIterator, ExactSizeIterator, FusedIterator};
 use std::marker::Model;
 
-/// The weights of the nodes, by ascending index.
+/// The weights of the nodes, in ascending index order. Returned by
+/// [`node_weights`](crate::graph::DiGraph::node_weights).
 #[derive(Drop)]
 pub struct NodeWeights<'a, N, Ix: IndexType = DefaultIx> {
     nodes: &'a [Node<N, Ix>],
@@ -54,6 +56,17 @@ impl<'a, N, Ix: IndexType> Iterator for NodeWeights<'a, N, Ix> {
     }
 }
 
+impl<'a, N, Ix: IndexType> DoubleEndedIterator for NodeWeights<'a, N, Ix> {
+    ghost next_back_gives = { YieldsLastRef (λ rest. rest) };
+
+    #[inline]
+    fn next_back(&mut self) -> Option<&'a N> {
+        let (x, rest) = self.nodes.split_last()?;
+        self.nodes = rest;
+        Some(&x.weight)
+    }
+}
+
 impl<'a, N, Ix: IndexType> ExactSizeIterator for NodeWeights<'a, N, Ix> {
     #[inline]
     fn len(&self) -> usize {
@@ -79,7 +92,8 @@ impl<'a, N, Ix: IndexType> fmt::Debug for NodeWeights<'a, N, Ix> {
     }
 }
 
-/// The weights of the edges, by ascending index.
+/// The weights of the edges, in ascending index order. Returned by
+/// [`edge_weights`](crate::graph::DiGraph::edge_weights).
 #[derive(Drop)]
 pub struct EdgeWeights<'a, E, Ix: IndexType = DefaultIx> {
     edges: &'a [Edge<E, Ix>],
@@ -114,6 +128,17 @@ impl<'a, E, Ix: IndexType> Iterator for EdgeWeights<'a, E, Ix> {
     }
 }
 
+impl<'a, E, Ix: IndexType> DoubleEndedIterator for EdgeWeights<'a, E, Ix> {
+    ghost next_back_gives = { YieldsLastRef (λ rest. rest) };
+
+    #[inline]
+    fn next_back(&mut self) -> Option<&'a E> {
+        let (x, rest) = self.edges.split_last()?;
+        self.edges = rest;
+        Some(&x.weight)
+    }
+}
+
 impl<'a, E, Ix: IndexType> ExactSizeIterator for EdgeWeights<'a, E, Ix> {
     #[inline]
     fn len(&self) -> usize {
@@ -139,7 +164,8 @@ impl<'a, E, Ix: IndexType> fmt::Debug for EdgeWeights<'a, E, Ix> {
     }
 }
 
-/// The indices of the nodes, in ascending order. It does not borrow the graph.
+/// The indices of the nodes, in ascending order. It does not borrow the graph. Returned by
+/// [`node_identifiers`](crate::graph::DiGraph::node_identifiers).
 #[derive(Drop)]
 pub struct NodeIdentifiers<Ix: IndexType = DefaultIx> {
     next: Link<Ix>,
@@ -181,6 +207,20 @@ impl<Ix: IndexType> Iterator for NodeIdentifiers<Ix> {
     }
 }
 
+impl<Ix: IndexType> DoubleEndedIterator for NodeIdentifiers<Ix> {
+    ghost next_back_gives = { YieldsLastBy Ix.number (λ rest. rest) };
+
+    #[inline]
+    fn next_back(&mut self) -> Option<NodeIndex<Ix>> {
+        let end = self.end.index();
+        if end <= self.next.index() {
+            return None;
+        }
+        self.end = Link::new(end - 1);
+        Some(NodeIndex::new(end - 1))
+    }
+}
+
 impl<Ix: IndexType> ExactSizeIterator for NodeIdentifiers<Ix> {
     #[inline]
     fn len(&self) -> usize {
@@ -209,7 +249,8 @@ impl<Ix: IndexType> fmt::Debug for NodeIdentifiers<Ix> {
     }
 }
 
-/// The nodes by ascending index, each with its weight.
+/// The nodes in ascending index order, each with its weight. Returned by
+/// [`node_references`](crate::graph::DiGraph::node_references).
 #[derive(Drop)]
 pub struct NodeReferences<'a, N, Ix: IndexType = DefaultIx> {
     nodes: &'a [Node<N, Ix>],
@@ -253,6 +294,18 @@ impl<'a, N, Ix: IndexType> Iterator for NodeReferences<'a, N, Ix> {
     }
 }
 
+impl<'a, N, Ix: IndexType> DoubleEndedIterator for NodeReferences<'a, N, Ix> {
+    ghost next_back_gives = { YieldsLastBy (λ item. (Ix.number item.0, item.1.now)) (λ rest. rest) };
+
+    #[inline]
+    fn next_back(&mut self) -> Option<(NodeIndex<Ix>, &'a N)> {
+        let (x, rest) = self.nodes.split_last()?;
+        let n = NodeIndex::new(self.index + rest.len());
+        self.nodes = rest;
+        Some((n, &x.weight))
+    }
+}
+
 impl<'a, N, Ix: IndexType> ExactSizeIterator for NodeReferences<'a, N, Ix> {
     #[inline]
     fn len(&self) -> usize {
@@ -292,7 +345,8 @@ pub(super) fn reference<'a, E, Ix: IndexType>(
     EdgeReference::from_parts(e.edge(), x.source(), x.target(), &x.weight)
 }
 
-/// The edges, by ascending index.
+/// The edges, in ascending index order. Returned by
+/// [`edge_references`](crate::graph::DiGraph::edge_references).
 #[derive(Drop)]
 pub struct EdgeReferences<'a, E, Ix: IndexType = DefaultIx> {
     edges: &'a [Edge<E, Ix>],
@@ -339,6 +393,20 @@ impl<'a, E, Ix: IndexType> Iterator for EdgeReferences<'a, E, Ix> {
     }
 }
 
+impl<'a, E, Ix: IndexType> DoubleEndedIterator for EdgeReferences<'a, E, Ix> {
+    ghost use Rattle.daggy_cells.specs.Referring.{referred};
+
+    ghost next_back_gives = { YieldsLastBy (referred Ix.number) (λ rest. rest) };
+
+    #[inline]
+    fn next_back(&mut self) -> Option<EdgeReference<'a, E, Ix>> {
+        let (x, rest) = self.edges.split_last()?;
+        let e = Link::new(self.index + rest.len());
+        self.edges = rest;
+        Some(reference(e, x))
+    }
+}
+
 impl<'a, E, Ix: IndexType> ExactSizeIterator for EdgeReferences<'a, E, Ix> {
     #[inline]
     fn len(&self) -> usize {
@@ -367,7 +435,8 @@ impl<'a, E, Ix: IndexType> fmt::Debug for EdgeReferences<'a, E, Ix> {
     }
 }
 
-/// The indices of the edges, in ascending order. It does not borrow the graph.
+/// The indices of the edges, in ascending order. It does not borrow the graph. Returned by
+/// [`edge_identifiers`](crate::graph::DiGraph::edge_identifiers).
 #[derive(Drop)]
 pub struct EdgeIdentifiers<Ix: IndexType = DefaultIx> {
     next: Link<Ix>,
@@ -409,6 +478,20 @@ impl<Ix: IndexType> Iterator for EdgeIdentifiers<Ix> {
     }
 }
 
+impl<Ix: IndexType> DoubleEndedIterator for EdgeIdentifiers<Ix> {
+    ghost next_back_gives = { YieldsLastBy Ix.number (λ rest. rest) };
+
+    #[inline]
+    fn next_back(&mut self) -> Option<EdgeIndex<Ix>> {
+        let end = self.end.index();
+        if end <= self.next.index() {
+            return None;
+        }
+        self.end = Link::new(end - 1);
+        Some(EdgeIndex::new(end - 1))
+    }
+}
+
 impl<Ix: IndexType> ExactSizeIterator for EdgeIdentifiers<Ix> {
     #[inline]
     fn len(&self) -> usize {
@@ -438,7 +521,11 @@ impl<Ix: IndexType> fmt::Debug for EdgeIdentifiers<Ix> {
 }
 
 impl<N, E, Ix: IndexType> DiGraph<N, E, Ix> {
-    /// The weights of the nodes, by ascending index.
+    /// The weights of the nodes, in ascending index order.
+    ///
+    /// # Complexity
+    ///
+    /// O(nodes) for the whole iteration.
     #[inline]
     pub fn node_weights(&self) -> NodeWeights<'_, N, Ix>
         ensures rest { result ≡ node_weights_of self.now.graph }
@@ -449,7 +536,11 @@ impl<N, E, Ix: IndexType> DiGraph<N, E, Ix> {
         }
     }
 
-    /// The weights of the edges, by ascending index.
+    /// The weights of the edges, in ascending index order.
+    ///
+    /// # Complexity
+    ///
+    /// O(edges) for the whole iteration.
     #[inline]
     pub fn edge_weights(&self) -> EdgeWeights<'_, E, Ix>
         ensures rest { result ≡ edge_weights_of self.now.graph }
@@ -461,6 +552,10 @@ impl<N, E, Ix: IndexType> DiGraph<N, E, Ix> {
     }
 
     /// The indices of the nodes, in ascending order. It does not borrow the graph.
+    ///
+    /// # Complexity
+    ///
+    /// O(nodes) for the whole iteration.
     #[inline]
     pub fn node_identifiers(&self) -> NodeIdentifiers<Ix>
         ensures rest { result ≡ node_identifiers_of self.now.graph }
@@ -473,6 +568,10 @@ impl<N, E, Ix: IndexType> DiGraph<N, E, Ix> {
     }
 
     /// The indices of the edges, in ascending order. It does not borrow the graph.
+    ///
+    /// # Complexity
+    ///
+    /// O(edges) for the whole iteration.
     #[inline]
     pub fn edge_identifiers(&self) -> EdgeIdentifiers<Ix>
         ensures rest { result ≡ edge_identifiers_of self.now.graph }
@@ -483,7 +582,11 @@ impl<N, E, Ix: IndexType> DiGraph<N, E, Ix> {
         EdgeIdentifiers { next, end }
     }
 
-    /// The nodes by ascending index, each with its weight.
+    /// The nodes in ascending index order, each with its weight.
+    ///
+    /// # Complexity
+    ///
+    /// O(nodes) for the whole iteration.
     #[inline]
     pub fn node_references(&self) -> NodeReferences<'_, N, Ix>
         ensures rest { result ≡ node_references_of self.now.graph }
@@ -495,7 +598,11 @@ impl<N, E, Ix: IndexType> DiGraph<N, E, Ix> {
         }
     }
 
-    /// The edges, by ascending index.
+    /// The edges, in ascending index order.
+    ///
+    /// # Complexity
+    ///
+    /// O(edges) for the whole iteration.
     #[inline]
     pub fn edge_references(&self) -> EdgeReferences<'_, E, Ix>
         ensures rest { result ≡ edge_references_of self.now.graph }

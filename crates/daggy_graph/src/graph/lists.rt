@@ -14,7 +14,9 @@ use std::fmt;
 use std::iter::FusedIterator;
 use std::marker::Model;
 
-/// The edges of one list of a node, in the order of the list.
+/// The edges of one list of a node, in the order of the list. Returned by
+/// [`edges`](crate::graph::DiGraph::edges) and
+/// [`edges_directed`](crate::graph::DiGraph::edges_directed).
 #[derive(Drop)]
 pub struct Edges<'a, E, Ix: IndexType = DefaultIx> {
     edges: &'a [Edge<E, Ix>],
@@ -76,7 +78,9 @@ impl<'a, E, Ix: IndexType> fmt::Debug for Edges<'a, E, Ix> {
     }
 }
 
-/// The far endpoints of the edges of one list of a node, in the order of the list.
+/// The neighbors of a node in one direction, one for each edge, in the order of its list. Returned
+/// by [`neighbors`](crate::graph::DiGraph::neighbors) and
+/// [`neighbors_directed`](crate::graph::DiGraph::neighbors_directed).
 #[derive(Drop)]
 pub struct Neighbors<'a, E, Ix: IndexType = DefaultIx> {
     edges: Edges<'a, E, Ix>,

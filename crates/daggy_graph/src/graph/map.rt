@@ -56,7 +56,12 @@ fn map_edges<E, V, Ix: IndexType, G: FnMut(EdgeIndex<Ix>, &E) -> V>(
 
 impl<N, E, Ix: IndexType> DiGraph<N, E, Ix> {
     /// A graph with the same indices and lists, and with the weights returned by the closures: `f`
-    /// is called with each node by ascending index, and then `g` with each edge.
+    /// is called with each node in ascending index order, and then `g` with each edge.
+    ///
+    /// # Requires
+    ///
+    /// - `nodes`: `f` may be called with each node and its weight, in ascending index order.
+    /// - `edges`: `g` may be called with each edge and its weight, in ascending index order.
     ///
     /// # Errors
     ///

@@ -33,8 +33,13 @@ fn relink_nodes<N, E, Ix: IndexType>(
 }
 
 impl<N, E, Ix: IndexType> DiGraph<N, E, Ix> {
-    /// Permutes the lists: for each node, by ascending index, `orders` has its out list and its in
-    /// list in the desired order.
+    /// Permutes the lists: for each node, in ascending index order, `orders` has its out list and
+    /// its in list in the desired order.
+    ///
+    /// # Requires
+    ///
+    /// - `orders` has one pair for each node that exists, in ascending index order, and each pair
+    ///   permutes the out list and the in list of its node.
     ///
     /// # Complexity
     ///

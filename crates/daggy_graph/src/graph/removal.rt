@@ -22,7 +22,7 @@ impl<N, E, Ix: IndexType> DiGraph<N, E, Ix> {
     ///
     /// # Complexity
     ///
-    /// O(edges in the lists of the two edges). Does not allocate.
+    /// O(edges in the lists of this edge and of the one with the last index). Does not allocate.
     #[inline]
     pub fn remove_edge(&mut self, e: EdgeIndex<Ix>) -> Option<E>
         ensures value { result ≡ option_map (λ x. x.weight) (edge_at self.old.graph (Ix.number e)) }
@@ -47,8 +47,8 @@ impl<N, E, Ix: IndexType> DiGraph<N, E, Ix> {
     ///
     /// # Complexity
     ///
-    /// The removal of each of those edges, plus O(edges of the node with the last index). Does not
-    /// allocate.
+    /// The sum of the costs of removing its edges by `remove_edge`, plus O(edges of the node with
+    /// the last index). Does not allocate.
     pub fn remove_node(&mut self, n: NodeIndex<Ix>) -> Option<N>
     where
         E: Drop,
@@ -109,6 +109,8 @@ impl<N, E, Ix: IndexType> DiGraph<N, E, Ix> {
 
     /// Removes all nodes and edges. The capacity is kept.
     ///
+    /// # Complexity
+    ///
     /// O(nodes + edges).
     pub fn clear(&mut self)
     where
@@ -121,6 +123,8 @@ impl<N, E, Ix: IndexType> DiGraph<N, E, Ix> {
     }
 
     /// Removes all edges, and keeps the nodes. The capacity is kept.
+    ///
+    /// # Complexity
     ///
     /// O(nodes + edges).
     pub fn clear_edges(&mut self)

@@ -11,7 +11,12 @@ use crate::graph::{DiGraph, Edge, Node};
 use daggy_base::index::{EdgeIndex, IndexType, NodeIndex};
 
 impl<N, E, Ix: IndexType> DiGraph<N, E, Ix> {
-    /// Calls `f` with each node by ascending index and a mutable reference to its weight.
+    /// Calls `f` with each node in ascending index order and a mutable reference to its weight.
+    ///
+    /// # Requires
+    ///
+    /// - `f` may be called with each node and a mutable reference to its weight, in ascending index
+    ///   order.
     ///
     /// # Complexity
     ///
@@ -24,7 +29,12 @@ impl<N, E, Ix: IndexType> DiGraph<N, E, Ix> {
         write_nodes(&mut self.nodes, f);
     }
 
-    /// Calls `f` with each edge by ascending index and a mutable reference to its weight.
+    /// Calls `f` with each edge in ascending index order and a mutable reference to its weight.
+    ///
+    /// # Requires
+    ///
+    /// - `f` may be called with each edge and a mutable reference to its weight, in ascending index
+    ///   order.
     ///
     /// # Complexity
     ///

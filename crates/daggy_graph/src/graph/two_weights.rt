@@ -16,6 +16,13 @@ use daggy_cells::two_cells::at_two;
 impl<N, E, Ix: IndexType> DiGraph<N, E, Ix> {
     /// Calls `f` with mutable references to the weights of two nodes, and returns its result.
     ///
+    /// # Requires
+    ///
+    /// - `first`: `a` is a node of the graph. Test: `contains_node(a)`.
+    /// - `second`: `b` is a node of the graph. Test: `contains_node(b)`.
+    /// - `different`: `a` and `b` are not the same index. Test: `a != b`.
+    /// - `callable`: `f` may be called with these two weights.
+    ///
     /// # Complexity
     ///
     /// O(1), plus the call.
@@ -51,6 +58,13 @@ impl<N, E, Ix: IndexType> DiGraph<N, E, Ix> {
     }
 
     /// Calls `f` with mutable references to the weights of two edges, and returns its result.
+    ///
+    /// # Requires
+    ///
+    /// - `first`: `a` is an edge of the graph. Test: `contains_edge_index(a)`.
+    /// - `second`: `b` is an edge of the graph. Test: `contains_edge_index(b)`.
+    /// - `different`: `a` and `b` are not the same index. Test: `a != b`.
+    /// - `callable`: `f` may be called with these two weights.
     ///
     /// # Complexity
     ///
@@ -88,6 +102,12 @@ impl<N, E, Ix: IndexType> DiGraph<N, E, Ix> {
 
     /// Calls `f` with mutable references to the weights of a node and an edge, and returns its
     /// result.
+    ///
+    /// # Requires
+    ///
+    /// - `node`: `n` is a node of the graph. Test: `contains_node(n)`.
+    /// - `edge`: `e` is an edge of the graph. Test: `contains_edge_index(e)`.
+    /// - `callable`: `f` may be called with these two weights.
     ///
     /// # Complexity
     ///

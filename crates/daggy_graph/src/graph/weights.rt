@@ -58,7 +58,7 @@ impl<N, E, Ix: IndexType> DiGraph<N, E, Ix> {
         ensures value { option_copied_mut result
             ≡ option_map (λ x. x.weight) (edge_at self.old.graph (Ix.number e)) }
     {
-        if self.contains_edge(e) {
+        if self.contains_edge_index(e) {
             Some(self.edge_mut(e))
         } else {
             None

@@ -11,6 +11,13 @@ impl<Ix: IndexType> Order<Ix> {
     /// Renames each node to its new index in `names`, and removes the nodes without one. The order
     /// of the rest does not change.
     ///
+    /// # Requires
+    ///
+    /// - `few`: `names` has no more entries than the index type has indices.
+    /// - `covered`: `names` has an entry for each node of the order.
+    /// - `lower`: No new name is greater than the old one.
+    /// - `distinct`: No two nodes get the same name.
+    ///
     /// # Complexity
     ///
     /// O(length of `names`). Does not allocate.

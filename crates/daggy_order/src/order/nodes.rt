@@ -11,7 +11,8 @@ use std::fmt;
 use std::iter::{DoubleEndedIterator, ExactSizeIterator, FusedIterator};
 use std::marker::Model;
 
-/// The nodes of an order, from the first to the last. Can be read from both ends.
+/// The nodes of an order, from the first to the last. Can be read from both ends. Returned by
+/// [`nodes`](Order::nodes).
 #[derive(Drop)]
 pub struct Nodes<'a, Ix: IndexType = DefaultIx> {
     list: &'a LabeledList<Ix>,
@@ -38,6 +39,10 @@ impl<'a, Ix: IndexType> Model for Nodes<'a, Ix> {
 
 impl<Ix: IndexType> Order<Ix> {
     /// The nodes, from the first to the last.
+    ///
+    /// # Complexity
+    ///
+    /// O(nodes) for the whole iteration.
     #[inline]
     pub fn nodes(&self) -> Nodes<'_, Ix>
         ensures rest { result ≡ self.now }

@@ -133,6 +133,13 @@ fn path_before<Ix: IndexType, S: EdgeSource<Ix>>(
 /// A shortest path from `a` to `b`, as its nodes in order, or `None` if no path leads from `a` to
 /// `b`. The path from an existing node to itself is that node alone.
 ///
+/// # Requires
+///
+/// - `ordered`: `order` is a topological order of the nodes of `source`: it contains exactly these,
+///   each before its children.
+/// - `scratch_fits`: `scratch` has room for the nodes of `source`. Test:
+///   `scratch.fits(source.node_bound(), 0)`.
+///
 /// # Errors
 ///
 /// Returns `AllocError` if an allocation for the path fails.
@@ -141,6 +148,24 @@ fn path_before<Ix: IndexType, S: EdgeSource<Ix>>(
 ///
 /// O(1) if `b` precedes `a`. Otherwise it searches the nodes reachable from `a` that precede `b`.
 /// Allocates only the path that it returns.
+///
+/// # Examples
+///
+/// ```
+/// let mut graph: DiGraph<&'static str, ()> = DiGraph::new(rt.alloc());
+/// let sow = graph.add_node("sow")?;
+/// let grow = graph.add_node("grow")?;
+/// let reap = graph.add_node("reap")?;
+/// let _ = graph.add_edge(sow, grow, ())?;
+/// let _ = graph.add_edge(grow, reap, ())?;
+/// let mut scratch = Scratch::new(rt.alloc());
+/// scratch.reserve(graph.node_count(), 0)?;
+/// // `None` if the graph has a cycle.
+/// if let Some(mut order) = Order::sorted(rt.alloc(), &mut graph, &mut scratch)? {
+///     let path = path_in(rt.alloc(), &mut graph, &mut order, sow, reap, &mut scratch)?;
+///     assert!(rt; path.is_some_and(|path| path.as_slice() == [sow, grow, reap].as_slice()));
+/// }
+/// ```
 pub fn path_in<Ix: IndexType, S: EdgeSource<Ix>>(
     alloc: Global,
     source: &mut S,

@@ -10,7 +10,16 @@ use daggy_base::index::{IndexType, NodeIndex};
 use daggy_base::source::EdgeSource;
 use daggy_search::Scratch;
 
-/// As [`reaches`](daggy_search::reaches), by a topological order of the nodes.
+/// Whether a path leads from `a` to `b`, as [`reaches`](daggy_search::reaches) finds it, but only
+/// nodes between the two in `order` are searched. Use it instead of `reaches` where such an order
+/// is at hand.
+///
+/// # Requires
+///
+/// - `ordered`: `order` is a topological order of the nodes of `source`: it contains exactly these,
+///   each before its children.
+/// - `scratch_fits`: `scratch` has room for the nodes of `source`. Test:
+///   `scratch.fits(source.node_bound(), 0)`.
 ///
 /// # Complexity
 ///

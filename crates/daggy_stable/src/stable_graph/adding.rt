@@ -18,6 +18,10 @@ impl<N: Drop, E: Drop, Ix: IndexType> StableDiGraph<N, E, Ix> {
     /// Adds a node, in the slot vacated last. If no slot is vacant, its index is the previous node
     /// count.
     ///
+    /// # Requires
+    ///
+    /// - The index type has an index left for one more node. Test: `can_add_node()`.
+    ///
     /// # Errors
     ///
     /// Returns `Memory` with the weight if an allocation fails; the graph is unchanged.
@@ -77,6 +81,12 @@ impl<N: Drop, E: Drop, Ix: IndexType> StableDiGraph<N, E, Ix> {
 
     /// Adds an edge from `a` to `b`, in the slot vacated last. If no slot is vacant, its index is
     /// the previous edge count. It is first in the lists of `a` and of `b`.
+    ///
+    /// # Requires
+    ///
+    /// - `parent`: `a` is a node of the graph. Test: `contains_node(a)`.
+    /// - `child`: `b` is a node of the graph. Test: `contains_node(b)`.
+    /// - `index_left`: The index type has an index left for one more edge. Test: `can_add_edge()`.
     ///
     /// # Errors
     ///

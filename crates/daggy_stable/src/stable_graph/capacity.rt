@@ -15,6 +15,10 @@ impl<N, E, Ix: IndexType> StableDiGraph<N, E, Ix> {
     ///
     /// Returns `AllocError` if an allocation fails, or if the capacity exceeds what a machine can
     /// address.
+    ///
+    /// # Complexity
+    ///
+    /// O(1), plus the allocations.
     pub fn with_capacity(alloc: Global, nodes: usize, edges: usize) -> Result<Self, AllocError>
     where
         N: Drop,

@@ -117,11 +117,17 @@ fn filter_edges<N, E, W, Ix: IndexType, G: FnMut(EdgeIndex<Ix>, &E) -> Option<W>
 
 impl<N, E, Ix: IndexType> StableDiGraph<N, E, Ix> {
     /// A graph of the nodes and edges for which the closures return a weight, under the same
-    /// indices: `f` is called with each node by ascending index, and then `g` with each edge whose
-    /// endpoints were both kept.
+    /// indices: `f` is called with each node in ascending index order, and then `g` with each edge
+    /// whose endpoints were both kept.
     ///
     /// Slots after the last node and the last edge are dropped. Each list is in descending index
     /// order, and the highest vacant slot is reused first.
+    ///
+    /// # Requires
+    ///
+    /// - `nodes`: `f` may be called with each node and its weight, in ascending index order.
+    /// - `edges`: `g` may be called with the edges that are kept and their weights, in ascending
+    ///   index order, whichever edges these are.
     ///
     /// # Errors
     ///

@@ -12,6 +12,10 @@ use daggy_cells::cell::{Edge, Node};
 impl<N, E, Ix: IndexType> StableDiGraph<N, E, Ix> {
     /// The graph in these slots, none of which is vacant.
     ///
+    /// # Requires
+    ///
+    /// - The slots hold a graph: the links between them are those of its lists.
+    ///
     /// # Complexity
     ///
     /// O(1). Does not allocate.

@@ -63,10 +63,15 @@ fn make_edges<N, E: Drop, Ix: IndexType>(
 }
 
 impl<N, E, Ix: IndexType> StableDiGraph<N, E, Ix> {
-    /// A graph of explicit slots; `None` leaves a slot vacant. An edge slot has the parent, the
-    /// child and the weight.
+    /// Builds a graph from explicit slots; `None` leaves a slot vacant. An edge slot has the
+    /// parent, the child and the weight.
     ///
     /// Each list is in descending index order, and the highest vacant slot is reused first.
+    ///
+    /// # Requires
+    ///
+    /// - The index type has an index for each slot, and both ends of each edge are nodes: slots
+    ///   that are not `None`.
     ///
     /// # Errors
     ///

@@ -1,7 +1,7 @@
 //! Iterating over occupied slots.
-ghost use Rattle.std.specs.Prelude.{◌≡◌, ◌+◌, ◌<◌, ◌≤◌, ◌^◌, Bool, Some, None, [], is_none, length};
-ghost use Rattle.std.specs.Prelude.{IfSome, IfNone};
-ghost use Rattle.daggy_stable.specs.FullSlots.{next_full as next_full_of};
+ghost use Rattle.std.specs.Prelude.{◌≡◌, ◌+◌, ◌<◌, ◌≤◌, ◌^◌, Bool, true, Some, None, [], is_none, length};
+ghost use Rattle.std.specs.Prelude.{IfSome, IfNone, All};
+ghost use Rattle.daggy_stable.specs.FullSlots.{next_full as next_full_of, IsLastFull};
 
 use daggy_base::index::IndexType;
 use daggy_cells::cell::{Edge, Node};
@@ -59,6 +59,27 @@ impl<'a, C: Slot> FullSlots<'a, C> {
             self.index += 1;
             if !x.is_vacant() {
                 return Some((i, x));
+            }
+        }
+        None
+    }
+
+    // The last occupied slot, with its index.
+    #[inline]
+    pub(super) fn last_full(&mut self) -> Option<(usize, &'a C)>
+        requires { self.old.index + length self.old.cells.now < 2 ^ 64 }
+        ensures found { IfSome result (λ p.
+            IsLastFull C.vacant self.old.cells.now p.1.now self.new.cells.now) }
+        ensures at { IfSome result (λ p. p.0 ≡ self.old.index + length self.new.cells.now) }
+        ensures index { self.new.index ≡ self.old.index }
+        ensures bound { length self.new.cells.now ≤ length self.old.cells.now }
+        ensures none { IfNone result (All (λ x. C.vacant x ≡ true) self.old.cells.now) }
+        ensures ended { IfNone result (self.new.cells.now ≡ []) }
+    {
+        'along: while let Some((x, rest)) = self.cells.split_last() {
+            self.cells = rest;
+            if !x.is_vacant() {
+                return Some((self.index + rest.len(), x));
             }
         }
         None

@@ -1,6 +1,6 @@
 //! Iterators over the nodes and the edges.
 ghost use Rattle.std.specs.Prelude.{◌≡◌, ◌<◌, ◌^◌, length, Some, IsSome};
-ghost use Rattle.std.specs.Iterator.{YieldsFirstRef, YieldsFirstBy, item_count};
+ghost use Rattle.std.specs.Iterator.{YieldsFirstRef, YieldsFirstBy, YieldsLastBy, item_count};
 ghost use Rattle.daggy_base.specs.Iterating.{node_weights as node_weights_of};
 ghost use Rattle.daggy_base.specs.Iterating.{edge_weights as edge_weights_of};
 ghost use Rattle.daggy_base.specs.Iterating.{node_identifiers as node_identifiers_of};
@@ -19,14 +19,15 @@ use daggy_cells::links;
 use daggy_cells::reference::EdgeReference;
 use std::alloc::AllocError;
 use std::fmt;
-use std::iter::FusedIterator;
+use std::iter::{DoubleEndedIterator, FusedIterator};
 use std::marker::Model;
 
-/// The nodes by ascending index, each with its weight.
+/// The nodes in ascending index order, each with its weight. Returned by
+/// [`node_references`](crate::stable_graph::StableDiGraph::node_references).
 ///
 /// # Complexity
 ///
-/// O(slots) in total.
+/// O(slots) for the whole iteration.
 #[derive(Drop)]
 pub struct NodeReferences<'a, N, Ix: IndexType = DefaultIx> {
     slots: FullSlots<'a, Node<Option<N>, Ix>>,
@@ -66,6 +67,17 @@ impl<'a, N, Ix: IndexType> Iterator for NodeReferences<'a, N, Ix> {
     }
 }
 
+impl<'a, N, Ix: IndexType> DoubleEndedIterator for NodeReferences<'a, N, Ix> {
+    ghost next_back_gives = { YieldsLastBy (λ item. (Ix.number item.0, item.1.now)) (λ rest. rest) };
+
+    #[inline]
+    fn next_back(&mut self) -> Option<(NodeIndex<Ix>, &'a N)> {
+        let (at, x) = self.slots.last_full()?;
+        let n = NodeIndex::new(at);
+        Some((n, x.weight.as_ref().unwrap()))
+    }
+}
+
 impl<'a, N, Ix: IndexType> FusedIterator for NodeReferences<'a, N, Ix> {}
 
 impl<'a, N, Ix: IndexType> Clone for NodeReferences<'a, N, Ix> {
@@ -87,7 +99,8 @@ impl<'a, N, Ix: IndexType> fmt::Debug for NodeReferences<'a, N, Ix> {
     }
 }
 
-/// The indices of the nodes, in ascending order.
+/// The indices of the nodes, in ascending order. Returned by
+/// [`node_identifiers`](crate::stable_graph::StableDiGraph::node_identifiers).
 #[derive(Drop)]
 pub struct NodeIdentifiers<'a, N, Ix: IndexType = DefaultIx> {
     nodes: NodeReferences<'a, N, Ix>,
@@ -122,6 +135,18 @@ impl<'a, N, Ix: IndexType> Iterator for NodeIdentifiers<'a, N, Ix> {
     }
 }
 
+impl<'a, N, Ix: IndexType> DoubleEndedIterator for NodeIdentifiers<'a, N, Ix> {
+    ghost next_back_gives = { YieldsLastBy Ix.number (λ rest. rest) };
+
+    #[inline]
+    fn next_back(&mut self) -> Option<NodeIndex<Ix>> {
+        match self.nodes.next_back() {
+            Some((n, _w)) => Some(n),
+            None => None,
+        }
+    }
+}
+
 impl<'a, N, Ix: IndexType> FusedIterator for NodeIdentifiers<'a, N, Ix> {}
 
 impl<'a, N, Ix: IndexType> Clone for NodeIdentifiers<'a, N, Ix> {
@@ -140,7 +165,8 @@ impl<'a, N, Ix: IndexType> fmt::Debug for NodeIdentifiers<'a, N, Ix> {
     }
 }
 
-/// The weights of the nodes, by ascending index.
+/// The weights of the nodes, in ascending index order. Returned by
+/// [`node_weights`](crate::stable_graph::StableDiGraph::node_weights).
 #[derive(Drop)]
 pub struct NodeWeights<'a, N, Ix: IndexType = DefaultIx> {
     nodes: NodeReferences<'a, N, Ix>,
@@ -207,11 +233,12 @@ pub(super) fn reference<'a, E, Ix: IndexType>(
     EdgeReference::from_parts(e, source, target, x.weight.as_ref().unwrap())
 }
 
-/// The edges, by ascending index.
+/// The edges, in ascending index order. Returned by
+/// [`edge_references`](crate::stable_graph::StableDiGraph::edge_references).
 ///
 /// # Complexity
 ///
-/// O(slots) in total.
+/// O(slots) for the whole iteration.
 #[derive(Drop)]
 pub struct EdgeReferences<'a, E, Ix: IndexType = DefaultIx> {
     slots: FullSlots<'a, Edge<Option<E>, Ix>>,
@@ -253,6 +280,18 @@ impl<'a, E, Ix: IndexType> Iterator for EdgeReferences<'a, E, Ix> {
     }
 }
 
+impl<'a, E, Ix: IndexType> DoubleEndedIterator for EdgeReferences<'a, E, Ix> {
+    ghost use Rattle.daggy_cells.specs.Referring.{referred};
+
+    ghost next_back_gives = { YieldsLastBy (referred Ix.number) (λ rest. rest) };
+
+    #[inline]
+    fn next_back(&mut self) -> Option<EdgeReference<'a, E, Ix>> {
+        let (at, x) = self.slots.last_full()?;
+        Some(reference(EdgeIndex::new(at), x))
+    }
+}
+
 impl<'a, E, Ix: IndexType> FusedIterator for EdgeReferences<'a, E, Ix> {}
 
 impl<'a, E, Ix: IndexType> Clone for EdgeReferences<'a, E, Ix> {
@@ -274,7 +313,8 @@ impl<'a, E, Ix: IndexType> fmt::Debug for EdgeReferences<'a, E, Ix> {
     }
 }
 
-/// The weights of the edges, by ascending index.
+/// The weights of the edges, in ascending index order. Returned by
+/// [`edge_weights`](crate::stable_graph::StableDiGraph::edge_weights).
 #[derive(Drop)]
 pub struct EdgeWeights<'a, E, Ix: IndexType = DefaultIx> {
     edges: EdgeReferences<'a, E, Ix>,
@@ -325,7 +365,8 @@ impl<'a, E, Ix: IndexType> fmt::Debug for EdgeWeights<'a, E, Ix> {
     }
 }
 
-/// The indices of the edges, in ascending order.
+/// The indices of the edges, in ascending order. Returned by
+/// [`edge_identifiers`](crate::stable_graph::StableDiGraph::edge_identifiers).
 #[derive(Drop)]
 pub struct EdgeIdentifiers<'a, E, Ix: IndexType = DefaultIx> {
     edges: EdgeReferences<'a, E, Ix>,
@@ -358,6 +399,16 @@ impl<'a, E, Ix: IndexType> Iterator for EdgeIdentifiers<'a, E, Ix> {
     }
 }
 
+impl<'a, E, Ix: IndexType> DoubleEndedIterator for EdgeIdentifiers<'a, E, Ix> {
+    ghost next_back_gives = { YieldsLastBy Ix.number (λ rest. rest) };
+
+    #[inline]
+    fn next_back(&mut self) -> Option<EdgeIndex<Ix>> {
+        let x = self.edges.next_back()?;
+        Some(x.id())
+    }
+}
+
 impl<'a, E, Ix: IndexType> FusedIterator for EdgeIdentifiers<'a, E, Ix> {}
 
 impl<'a, E, Ix: IndexType> Clone for EdgeIdentifiers<'a, E, Ix> {
@@ -377,7 +428,11 @@ impl<'a, E, Ix: IndexType> fmt::Debug for EdgeIdentifiers<'a, E, Ix> {
 }
 
 impl<N, E, Ix: IndexType> StableDiGraph<N, E, Ix> {
-    /// The weights of the nodes, by ascending index. O(slots) in total, occupied or vacant.
+    /// The weights of the nodes, in ascending index order.
+    ///
+    /// # Complexity
+    ///
+    /// O(node slots) for the whole iteration, since vacant slots are skipped.
     #[inline]
     pub fn node_weights(&self) -> NodeWeights<'_, N, Ix>
         ensures rest { result ≡ node_weights_of self.now.graph }
@@ -388,7 +443,11 @@ impl<N, E, Ix: IndexType> StableDiGraph<N, E, Ix> {
         }
     }
 
-    /// The weights of the edges, by ascending index. O(slots) in total, occupied or vacant.
+    /// The weights of the edges, in ascending index order.
+    ///
+    /// # Complexity
+    ///
+    /// O(edge slots) for the whole iteration, since vacant slots are skipped.
     #[inline]
     pub fn edge_weights(&self) -> EdgeWeights<'_, E, Ix>
         ensures rest { result ≡ edge_weights_of self.now.graph }
@@ -399,7 +458,11 @@ impl<N, E, Ix: IndexType> StableDiGraph<N, E, Ix> {
         }
     }
 
-    /// The indices of the nodes, in ascending order. O(slots) in total, occupied or vacant.
+    /// The indices of the nodes, in ascending order.
+    ///
+    /// # Complexity
+    ///
+    /// O(node slots) for the whole iteration, since vacant slots are skipped.
     #[inline]
     pub fn node_identifiers(&self) -> NodeIdentifiers<'_, N, Ix>
         ensures rest { result ≡ node_identifiers_of self.now.graph }
@@ -410,7 +473,11 @@ impl<N, E, Ix: IndexType> StableDiGraph<N, E, Ix> {
         }
     }
 
-    /// The indices of the edges, in ascending order. O(slots) in total, occupied or vacant.
+    /// The indices of the edges, in ascending order.
+    ///
+    /// # Complexity
+    ///
+    /// O(edge slots) for the whole iteration, since vacant slots are skipped.
     #[inline]
     pub fn edge_identifiers(&self) -> EdgeIdentifiers<'_, E, Ix>
         ensures rest { result ≡ edge_identifiers_of self.now.graph }
@@ -421,7 +488,11 @@ impl<N, E, Ix: IndexType> StableDiGraph<N, E, Ix> {
         }
     }
 
-    /// The nodes by ascending index, each with its weight. O(slots) in total, occupied or vacant.
+    /// The nodes in ascending index order, each with its weight.
+    ///
+    /// # Complexity
+    ///
+    /// O(node slots) for the whole iteration, since vacant slots are skipped.
     #[inline]
     pub fn node_references(&self) -> NodeReferences<'_, N, Ix>
         ensures rest { result ≡ node_references_of self.now.graph }
@@ -435,7 +506,11 @@ impl<N, E, Ix: IndexType> StableDiGraph<N, E, Ix> {
         }
     }
 
-    /// The edges, by ascending index. O(slots) in total, occupied or vacant.
+    /// The edges, in ascending index order.
+    ///
+    /// # Complexity
+    ///
+    /// O(edge slots) for the whole iteration, since vacant slots are skipped.
     #[inline]
     pub fn edge_references(&self) -> EdgeReferences<'_, E, Ix>
         ensures rest { result ≡ edge_references_of self.now.graph }

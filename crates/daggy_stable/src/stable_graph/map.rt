@@ -71,7 +71,13 @@ fn map_edges<E, W, Ix: IndexType, G: FnMut(EdgeIndex<Ix>, &E) -> W>(
 
 impl<N, E, Ix: IndexType> StableDiGraph<N, E, Ix> {
     /// A graph with the same indices, lists and vacant slots, and with the weights returned by the
-    /// closures: `f` is called with each node by ascending index, and then `g` with each edge.
+    /// closures: `f` is called with each node in ascending index order, and then `g` with each
+    /// edge.
+    ///
+    /// # Requires
+    ///
+    /// - `nodes`: `f` may be called with each node and its weight, in ascending index order.
+    /// - `edges`: `g` may be called with each edge and its weight, in ascending index order.
     ///
     /// # Errors
     ///

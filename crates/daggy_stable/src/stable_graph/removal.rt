@@ -32,7 +32,7 @@ impl<N, E, Ix: IndexType> StableDiGraph<N, E, Ix> {
             (self.new ≡ with_graph self.old (without_edge Stable self.old.graph (Ix.number e))) }
         ensures missing { IfNone result (self.new ≡ self.old) }
     {
-        if !self.contains_edge(e) {
+        if !self.contains_edge_index(e) {
             return None;
         }
         self.vacate_edge(e)
@@ -64,7 +64,7 @@ impl<N, E, Ix: IndexType> StableDiGraph<N, E, Ix> {
     ///
     /// # Complexity
     ///
-    /// The removal of each of those edges. Does not allocate.
+    /// The sum of the costs of removing its edges by `remove_edge`. Does not allocate.
     pub fn remove_node(&mut self, n: NodeIndex<Ix>) -> Option<N>
     where
         E: Drop,
@@ -125,6 +125,8 @@ impl<N, E, Ix: IndexType> StableDiGraph<N, E, Ix> {
 
     /// Removes all nodes and edges, and all slots. The capacity is kept.
     ///
+    /// # Complexity
+    ///
     /// O(slots).
     pub fn clear(&mut self)
     where
@@ -141,6 +143,8 @@ impl<N, E, Ix: IndexType> StableDiGraph<N, E, Ix> {
     }
 
     /// Removes all edges and all edge slots, and keeps the nodes. The capacity is kept.
+    ///
+    /// # Complexity
     ///
     /// O(slots).
     pub fn clear_edges(&mut self)

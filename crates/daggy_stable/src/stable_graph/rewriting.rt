@@ -13,7 +13,12 @@ use daggy_base::index::{Direction, EdgeIndex, IndexType, NodeIndex};
 use daggy_cells::cell::{Edge, Node};
 
 impl<N, E, Ix: IndexType> StableDiGraph<N, E, Ix> {
-    /// Calls `f` with each node by ascending index and a mutable reference to its weight.
+    /// Calls `f` with each node in ascending index order and a mutable reference to its weight.
+    ///
+    /// # Requires
+    ///
+    /// - `f` may be called with each node and a mutable reference to its weight, in ascending index
+    ///   order.
     ///
     /// # Complexity
     ///
@@ -26,7 +31,12 @@ impl<N, E, Ix: IndexType> StableDiGraph<N, E, Ix> {
         write_nodes(&mut self.nodes, f);
     }
 
-    /// Calls `f` with each edge by ascending index and a mutable reference to its weight.
+    /// Calls `f` with each edge in ascending index order and a mutable reference to its weight.
+    ///
+    /// # Requires
+    ///
+    /// - `f` may be called with each edge and a mutable reference to its weight, in ascending index
+    ///   order.
     ///
     /// # Complexity
     ///

@@ -1,14 +1,16 @@
 //! `EdgeSource` for the stable store.
-ghost use Rattle.std.specs.Prelude.{◌≡◌, ◌+◌, ◌↔◌, IsTrue};
+ghost use Rattle.std.specs.Prelude.{◌≡◌, ◌+◌, ◌↔◌, IsTrue, OnSome, IfNone};
+ghost use Rattle.std.specs.Option.{option_map};
 ghost use Rattle.daggy_base.specs.Graph.{HasNode, HasEdge, out_list, node_bound as node_bound_of};
-ghost use Rattle.daggy_base.specs.Graph.{edge_bound as edge_bound_of};
+ghost use Rattle.daggy_base.specs.Graph.{edge_bound as edge_bound_of, edge_at, ends_of, pair_of};
 ghost use Rattle.daggy_base.specs.WellFormed.{IsWellFormed};
 ghost use Rattle.daggy_base.specs.Cursor.{first_of};
 ghost use Rattle.daggy_base.specs.Look.{IsLook};
 
 use crate::stable_graph::StableDiGraph;
 use daggy_base::index::{Direction, EdgeIndex, IndexType, NodeIndex};
-use daggy_base::source::EdgeSource;
+use daggy_base::looks::Looks;
+use daggy_base::source::{EdgeSource, IndexedSource};
 use daggy_cells::links;
 
 impl<N: Drop, E: Drop, Ix: IndexType> EdgeSource<Ix> for StableDiGraph<N, E, Ix> {
@@ -65,5 +67,28 @@ impl<N: Drop, E: Drop, Ix: IndexType> EdgeSource<Ix> for StableDiGraph<N, E, Ix>
         let child = links::endpoint(x, Direction::Incoming);
         let next = links::next(x, Direction::Outgoing);
         (child.node(), next.edge())
+    }
+
+    #[inline]
+    fn count_looks(&mut self, taken: &Looks)
+        ensures same { self.new.graph ≡ self.old.graph }
+        ensures counted { self.new.looks ≡ self.old.looks + taken.now.count }
+    {
+        self.looks.add(taken);
+    }
+}
+
+impl<N: Drop, E: Drop, Ix: IndexType> IndexedSource<Ix> for StableDiGraph<N, E, Ix> {
+    #[inline]
+    fn look_at(&mut self, e: EdgeIndex<Ix>) -> Option<(NodeIndex<Ix>, NodeIndex<Ix>)>
+        ensures gives { option_map (pair_of Ix.number) result
+            ≡ option_map ends_of (edge_at self.old.graph (Ix.number e)) }
+        ensures same { self.new.graph ≡ self.old.graph }
+        ensures counted { OnSome result (self.new.looks ≡ self.old.looks + 1) }
+        ensures missing { IfNone result (self.new.looks ≡ self.old.looks) }
+    {
+        let ends = self.edge_endpoints(e)?;
+        Looks::take(&mut self.looks);
+        Some(ends)
     }
 }

@@ -26,45 +26,15 @@ use crate::stable_graph::StableDiGraph;
 use daggy_base::error::{EdgeError, NodeError};
 use daggy_base::index::{Direction, EdgeIndex, IndexType, NodeIndex};
 use daggy_base::kind::Kind;
+use daggy_base::read_store::ReadStore;
 use daggy_base::source::EdgeSource;
 use daggy_base::store::Store;
 use std::alloc::{AllocError, Global};
 
-impl<N: Drop, E: Drop, Ix: IndexType> Store<Ix> for StableDiGraph<N, E, Ix> {
+impl<N: Drop, E: Drop, Ix: IndexType> ReadStore<Ix> for StableDiGraph<N, E, Ix> {
     ghost KIND = { Stable };
 
     const KIND: Kind = Kind::Stable;
-
-    ghost node_written = { λ s n w. with_graph s (with_node_weight s.graph n w) };
-
-    ghost edge_written = { λ s e w. with_graph s (with_edge_weight s.graph e w) };
-
-    ghost node_written_is = { λ s n w. refl };
-
-    ghost node_written_looks = { λ s n w. refl };
-
-    ghost edge_written_is = { λ s e w. refl };
-
-    ghost edge_written_looks = { λ s e w. refl };
-
-    fn new(alloc: Global) -> Self {
-        StableDiGraph::new(alloc)
-    }
-
-    fn from_slots(
-        alloc: Global,
-        nodes: Vec<Option<N>>,
-        edges: Vec<Option<(NodeIndex<Ix>, NodeIndex<Ix>, E)>>,
-    ) -> Result<Self, AllocError>
-        requires makes_graph { MakeGraph Ix.greatest nodes.items (edges_by Ix.number edges.items) }
-        requires compact { Stable ≡ Compact
-            → IsCompact (graph_of_slots nodes.items (edges_by Ix.number edges.items)) }
-        ensures graph { IfOk result (λ s.
-            s.graph ≡ graph_of_slots nodes.items (edges_by Ix.number edges.items)) }
-        ensures looks { IfOk result (λ s. s.looks ≡ 0) }
-    {
-        StableDiGraph::from_slots(alloc, nodes, edges)
-    }
 
     #[inline]
     fn invariant(&self) {
@@ -92,10 +62,10 @@ impl<N: Drop, E: Drop, Ix: IndexType> Store<Ix> for StableDiGraph<N, E, Ix> {
     }
 
     #[inline]
-    fn contains_edge(&self, e: EdgeIndex<Ix>) -> bool
+    fn contains_edge_index(&self, e: EdgeIndex<Ix>) -> bool
         ensures { IsTrue result ↔ HasEdge self.now.graph (Ix.number e) }
     {
-        StableDiGraph::contains_edge(self, e)
+        StableDiGraph::contains_edge_index(self, e)
     }
 
     #[inline]
@@ -113,26 +83,6 @@ impl<N: Drop, E: Drop, Ix: IndexType> Store<Ix> for StableDiGraph<N, E, Ix> {
     }
 
     #[inline]
-    fn node_mut(&mut self, n: NodeIndex<Ix>) -> &mut N
-        requires { HasNode self.old.graph (Ix.number n) }
-        ensures* writes_back { sem 𝓛
-            (lends_node N.row E.row Ix.row Ix.IndexType self.entry n result) }
-        ensures value { node_weight self.old.graph (Ix.number n) ≡ Some result.now }
-    {
-        &mut self[n]
-    }
-
-    #[inline]
-    fn edge_mut(&mut self, e: EdgeIndex<Ix>) -> &mut E
-        requires { HasEdge self.old.graph (Ix.number e) }
-        ensures* writes_back { sem 𝓛
-            (lends_edge N.row E.row Ix.row Ix.IndexType self.entry e result) }
-        ensures value { edge_weight self.old.graph (Ix.number e) ≡ Some result.now }
-    {
-        &mut self[e]
-    }
-
-    #[inline]
     fn can_add_node(&self) -> bool {
         self.can_add_node()
     }
@@ -140,16 +90,6 @@ impl<N: Drop, E: Drop, Ix: IndexType> Store<Ix> for StableDiGraph<N, E, Ix> {
     #[inline]
     fn can_add_edge(&self) -> bool {
         self.can_add_edge()
-    }
-
-    #[inline]
-    fn slots_with_node(&self) -> usize {
-        let _fits = NodeIndex::<Ix>::end().index();
-        let slots = self.nodes.len();
-        if self.first_vacant_node.index() < slots {
-            return slots;
-        }
-        slots + 1
     }
 
     #[inline]
@@ -184,6 +124,69 @@ impl<N: Drop, E: Drop, Ix: IndexType> Store<Ix> for StableDiGraph<N, E, Ix> {
             ≡ edge_between self.now.graph (Ix.number a) (Ix.number b) }
     {
         self.find_edge(a, b)
+    }
+}
+
+impl<N: Drop, E: Drop, Ix: IndexType> Store<Ix> for StableDiGraph<N, E, Ix> {
+    ghost node_written = { λ s n w. with_graph s (with_node_weight s.graph n w) };
+
+    ghost edge_written = { λ s e w. with_graph s (with_edge_weight s.graph e w) };
+
+    ghost node_written_is = { λ s n w. refl };
+
+    ghost node_written_looks = { λ s n w. refl };
+
+    ghost edge_written_is = { λ s e w. refl };
+
+    ghost edge_written_looks = { λ s e w. refl };
+
+    fn new(alloc: Global) -> Self {
+        StableDiGraph::new(alloc)
+    }
+
+    fn from_slots(
+        alloc: Global,
+        nodes: Vec<Option<N>>,
+        edges: Vec<Option<(NodeIndex<Ix>, NodeIndex<Ix>, E)>>,
+    ) -> Result<Self, AllocError>
+        requires makes_graph { MakeGraph Ix.greatest nodes.items (edges_by Ix.number edges.items) }
+        requires compact { Stable ≡ Compact
+            → IsCompact (graph_of_slots nodes.items (edges_by Ix.number edges.items)) }
+        ensures graph { IfOk result (λ s.
+            s.graph ≡ graph_of_slots nodes.items (edges_by Ix.number edges.items)) }
+        ensures looks { IfOk result (λ s. s.looks ≡ 0) }
+    {
+        StableDiGraph::from_slots(alloc, nodes, edges)
+    }
+
+    #[inline]
+    fn node_mut(&mut self, n: NodeIndex<Ix>) -> &mut N
+        requires { HasNode self.old.graph (Ix.number n) }
+        ensures* writes_back { sem 𝓛
+            (lends_node N.row E.row Ix.row Ix.IndexType self.entry n result) }
+        ensures value { node_weight self.old.graph (Ix.number n) ≡ Some result.now }
+    {
+        &mut self[n]
+    }
+
+    #[inline]
+    fn edge_mut(&mut self, e: EdgeIndex<Ix>) -> &mut E
+        requires { HasEdge self.old.graph (Ix.number e) }
+        ensures* writes_back { sem 𝓛
+            (lends_edge N.row E.row Ix.row Ix.IndexType self.entry e result) }
+        ensures value { edge_weight self.old.graph (Ix.number e) ≡ Some result.now }
+    {
+        &mut self[e]
+    }
+
+    #[inline]
+    fn slots_with_node(&self) -> usize {
+        let _fits = NodeIndex::<Ix>::end().index();
+        let slots = self.nodes.len();
+        if self.first_vacant_node.index() < slots {
+            return slots;
+        }
+        slots + 1
     }
 
     #[inline]

@@ -16,6 +16,11 @@ impl<N, E, Ix: IndexType> StableDiGraph<N, E, Ix> {
     /// Undoes the addition of an edge, and returns its weight. The slot is removed if it was new
     /// (`made`), and vacated otherwise.
     ///
+    /// # Requires
+    ///
+    /// - `exists`: `e` is an edge of the graph. Test: `contains_edge_index(e)`.
+    /// - `last`: If `made` is true, `e` is in the last edge slot.
+    ///
     /// # Complexity
     ///
     /// O(edges before it in its two lists), so O(1) for the edge added last. Does not allocate.
@@ -49,6 +54,14 @@ impl<N, E, Ix: IndexType> StableDiGraph<N, E, Ix> {
 
     /// Undoes the addition of a node without edges, and returns its weight. The slot is removed if
     /// it was new (`made`), and vacated otherwise.
+    ///
+    /// # Requires
+    ///
+    /// - `exists`: `n` is a node of the graph. Test: `contains_node(n)`.
+    /// - `no_edges`: `n` has no edges.
+    /// - `last`: If `made` is true, `n` is in the last node slot.
+    ///
+    /// # Complexity
     ///
     /// O(1). Does not allocate.
     pub fn take_back_node(&mut self, n: NodeIndex<Ix>, made: bool) -> N

@@ -58,7 +58,7 @@ impl<N, E, Ix: IndexType> StableDiGraph<N, E, Ix> {
         ensures value { option_copied_mut result
             ≡ option_map (λ x. x.weight) (edge_at self.old.graph (Ix.number e)) }
     {
-        if self.contains_edge(e) {
+        if self.contains_edge_index(e) {
             Some(self.edge_mut(e))
         } else {
             None
@@ -89,6 +89,10 @@ impl<N, E, Ix: IndexType> StableDiGraph<N, E, Ix> {
     }
 
     /// Replaces the weight of an edge, and returns the old one.
+    ///
+    /// # Requires
+    ///
+    /// - `e` is an edge of the graph. Test: `contains_edge_index(e)`.
     #[inline]
     pub fn replace_edge_weight(&mut self, e: EdgeIndex<Ix>, weight: E) -> E
         requires { HasEdge self.old.graph (Ix.number e) }

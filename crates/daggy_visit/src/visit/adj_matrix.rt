@@ -12,6 +12,17 @@ use std::marker::{Model, PhantomData};
 /// A set of pairs of nodes whose indices are below a bound.
 ///
 /// It takes a bit for each pair of indices below its bound, and each row fills whole words.
+///
+/// # Examples
+///
+/// ```
+/// let mut pairs: AdjMatrix<u32> = AdjMatrix::new(rt.alloc(), 8)?;
+/// let sow = NodeIndex::new(0);
+/// let reap = NodeIndex::new(1);
+/// pairs.join(sow, reap);
+/// assert!(rt; pairs.has(sow, reap));
+/// assert!(rt; !pairs.has(reap, sow));
+/// ```
 #[derive(Drop)]
 pub struct AdjMatrix<Ix> {
     bits: Bits,
@@ -76,7 +87,12 @@ impl<Ix: IndexType> AdjMatrix<Ix> {
         })
     }
 
-    /// Adds a pair.
+    /// Adds the pair of `a` and `b`, in this order. Nothing changes if the matrix has it.
+    ///
+    /// # Requires
+    ///
+    /// - `source`: The index of `a` is below the bound of the matrix.
+    /// - `target`: The index of `b` is below the bound of the matrix.
     #[inline]
     pub fn join(&mut self, a: NodeIndex<Ix>, b: NodeIndex<Ix>)
         requires source { Ix.number a < length self.old }
@@ -89,7 +105,12 @@ impl<Ix: IndexType> AdjMatrix<Ix> {
         self.bits.set(i);
     }
 
-    /// Adds a pair from `a` for each pair from `b`, to the same node.
+    /// For each pair from `b` to a node, adds the pair from `a` to that node.
+    ///
+    /// # Requires
+    ///
+    /// - `source`: The index of `a` is below the bound of the matrix.
+    /// - `target`: The index of `b` is below the bound of the matrix.
     ///
     /// # Complexity
     ///

@@ -7,11 +7,11 @@ ghost use Rattle.daggy_base.specs.Graph.{node_count as node_count_of};
 ghost use Rattle.daggy_base.specs.Weights.{edge_weight as edge_weight_at, with_node_weight};
 ghost use Rattle.daggy_base.specs.Weights.{with_edge_weight};
 
-/// What names the nodes and the edges of a graph.
+/// The types that identify the nodes and the edges of a graph.
 pub trait GraphBase {
-    /// What names a node.
+    /// The type that identifies a node.
     type NodeId: Copy;
-    /// What names an edge.
+    /// The type that identifies an edge.
     type EdgeId: Copy;
 
     // The number of a node, and of an edge.
@@ -20,7 +20,8 @@ pub trait GraphBase {
     ghost edge_number: { Self.EdgeId → ℕ };
 }
 
-/// A graph with weights.
+/// The types of the weights of a graph. `Dag` and `StableDag` implement it, and also [`DataMap`]
+/// and [`DataMapMut`]; the stores do not.
 pub trait Data: GraphBase {
     /// The weight of a node.
     type NodeWeight;
@@ -38,7 +39,7 @@ pub trait NodeCount: Data {
         ensures { result ≡ node_count_of (Self.graph self.now) };
 }
 
-/// Says of a graph that its edges have a direction. It has no value.
+/// The type of graphs whose edges have a direction. It has no values.
 #[derive(Clone, Copy)]
 pub enum Directed {}
 
@@ -55,7 +56,9 @@ pub trait GraphProp: GraphBase {
         ensures { result ≡ directed };
 }
 
-/// A graph whose weights can be read.
+/// A graph whose weights can be read by index: generic code over `G: DataMap` calls
+/// [`node_weight`](DataMap::node_weight) and [`edge_weight`](DataMap::edge_weight) of any such
+/// graph.
 pub trait DataMap: Data {
     /// The weight of a node, or `None` if there is no such node.
     fn node_weight(&self, id: Self::NodeId) -> Option<&Self::NodeWeight>
@@ -67,7 +70,7 @@ pub trait DataMap: Data {
             ≡ edge_weight_at (Self.graph self.now) (Self.edge_number id) };
 }
 
-/// A graph whose weights can be written.
+/// A graph whose weights can also be written, through mutable references.
 pub trait DataMapMut: DataMap {
     // What the graph ends as, once the weight of a node was written, or that of an edge.
     ghost node_written: { Self → Self.NodeId → Self.NodeWeight → Self };

@@ -8,7 +8,7 @@ ghost use Rattle.daggy_visit.specs.Visit.{IsVisited, HasPair};
 use crate::visit::Data;
 use std::alloc::AllocError;
 
-/// A set of what is visited, which `N` names.
+/// A set of what a search has visited. Its members are of type `N`.
 pub trait VisitMap<N> {
     // The set, by number, and the number of a member.
     ghost visited: { Self → List Bool };
@@ -16,6 +16,10 @@ pub trait VisitMap<N> {
     ghost number: { N → ℕ };
 
     /// Adds a member, and returns whether it was new.
+    ///
+    /// # Requires
+    ///
+    /// - The index of `a` is below the bound of the set.
     fn visit(&mut self, a: N) -> bool
         requires { number a < length (visited self.old) }
         ensures answer { IsFalse result ↔ IsVisited (visited self.old) (number a) }
@@ -28,7 +32,7 @@ pub trait VisitMap<N> {
         ensures { IsTrue result ↔ IsVisited (visited self.now) (number a.now) };
 }
 
-/// A graph that makes sets of its nodes.
+/// A graph that makes sets of its nodes, for searches that mark what they have visited.
 pub trait Visitable: Data {
     /// A set of nodes.
     type Map: VisitMap<Self::NodeId>;
@@ -38,6 +42,10 @@ pub trait Visitable: Data {
     /// # Errors
     ///
     /// Returns `AllocError` if an allocation fails.
+    ///
+    /// # Complexity
+    ///
+    /// O(node bound / 64).
     fn visit_map(&self) -> Result<Self::Map, AllocError>
         ensures bound { IfOk result (λ map.
             length (Self.Map.visited map) ≡ node_bound_of (Self.graph self.now)) }
@@ -48,6 +56,10 @@ pub trait Visitable: Data {
     /// # Errors
     ///
     /// Returns `AllocError` if an allocation fails; the set is unchanged.
+    ///
+    /// # Complexity
+    ///
+    /// O(node bound / 64).
     fn reset_map(&self, map: &mut Self::Map) -> Result<(), AllocError>
         ensures bound { OnOk result
             (length (Self.Map.visited map.new) ≡ node_bound_of (Self.graph self.now)) }
@@ -58,19 +70,23 @@ pub trait Visitable: Data {
     ghost map_number: { (n : Self.NodeId) → Self.Map.number n ≡ Self.node_number n };
 }
 
-/// A graph that makes a matrix of the pairs of nodes that an edge joins.
+/// A graph that can make its adjacency matrix.
 pub trait GetAdjacencyMatrix: Data {
-    /// A set of pairs of nodes.
+    /// The type of the matrix.
     type AdjMatrix;
 
     // The pairs in a matrix.
     ghost pairs: { Self.AdjMatrix → List (List Bool) };
 
-    /// The pairs of nodes that an edge joins.
+    /// The adjacency matrix: the pairs of nodes that an edge connects.
     ///
     /// # Errors
     ///
     /// Returns `AllocError` if an allocation fails.
+    ///
+    /// # Complexity
+    ///
+    /// O(node bound^2 / 64 + edges).
     fn adjacency_matrix(&self) -> Result<Self::AdjMatrix, AllocError>
         ensures { IfOk result (λ matrix.
             (a b : ℕ) → HasPair (pairs matrix) a b ↔ AreJoined (Self.graph self.now) a b) };

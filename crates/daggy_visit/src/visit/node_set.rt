@@ -13,6 +13,16 @@ use std::marker::{Model, PhantomData};
 /// A set of nodes whose indices are below a bound.
 ///
 /// It takes a bit for each index below its bound.
+///
+/// # Examples
+///
+/// ```
+/// let mut seen: NodeSet<u32> = NodeSet::new(rt.alloc(), 8)?;
+/// assert!(rt; seen.visit(NodeIndex::new(3)));
+/// // It is no longer new.
+/// assert!(rt; !seen.visit(NodeIndex::new(3)));
+/// assert!(rt; !seen.is_visited(NodeIndex::new(4)));
+/// ```
 #[derive(Drop)]
 pub struct NodeSet<Ix> {
     bits: Bits,
@@ -66,7 +76,11 @@ impl<Ix: IndexType> NodeSet<Ix> {
         self.bits.reset(bound)
     }
 
-    /// Adds a node, and returns whether it was new.
+    /// Adds a node to the set, and returns whether it was new.
+    ///
+    /// # Requires
+    ///
+    /// - The index of `n` is below the bound of the set.
     #[inline]
     pub fn visit(&mut self, n: NodeIndex<Ix>) -> bool
         requires { Ix.number n < length self.old }

@@ -8,6 +8,19 @@ use std::marker::PhantomData;
 /// One walk, followed by another.
 ///
 /// The first walker is dropped when it yields nothing for the first time.
+///
+/// # Examples
+///
+/// ```
+/// let mut dag: Dag<&'static str, ()> = Dag::new(rt.alloc());
+/// let sow = dag.add_node("sow")?;
+/// let (_, grow) = dag.add_child(sow, (), "grow")?;
+/// let (_, reap) = dag.add_child(grow, (), "reap")?;
+/// let mut walk = Chain::new(dag.parents(grow), dag.children(grow));
+/// assert!(rt; walk.walk_next(&dag).is_some_and(|step| step.1 == sow));
+/// assert!(rt; walk.walk_next(&dag).is_some_and(|step| step.1 == reap));
+/// assert!(rt; walk.walk_next(&dag).is_none());
+/// ```
 #[derive(Drop)]
 #[derive_where(Clone, Copy, Debug; A, B)]
 pub struct Chain<G, A, B> {

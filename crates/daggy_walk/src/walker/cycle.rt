@@ -1,4 +1,4 @@
-//! A walk again and again.
+//! A walk that is repeated endlessly.
 ghost use Rattle.std.specs.Prelude.{◌≡◌};
 ghost use Rattle.daggy_walk.specs.Parts.{cycle_start, cycle_running};
 
@@ -9,6 +9,20 @@ use std::marker::PhantomData;
 ///
 /// Over an empty walk it yields nothing each time. Otherwise it never ends, so it is not a
 /// [`FiniteWalker`](crate::walker::FiniteWalker).
+///
+/// # Examples
+///
+/// ```
+/// let mut dag: Dag<&'static str, u32> = Dag::new(rt.alloc());
+/// let sow = dag.add_node("sow")?;
+/// let (_, reap) = dag.add_child(sow, 90, "reap")?;
+/// let (_, water) = dag.add_child(sow, 1, "water")?;
+///
+/// let mut walk = Cycle::new(dag.children(sow));
+/// assert!(rt; walk.walk_next(&dag).is_some_and(|step| step.1 == water));
+/// assert!(rt; walk.walk_next(&dag).is_some_and(|step| step.1 == reap));
+/// assert!(rt; walk.walk_next(&dag).is_some_and(|step| step.1 == water));
+/// ```
 #[derive(Drop)]
 #[derive_where(Clone, Copy, Debug; W)]
 pub struct Cycle<G, W> {
@@ -18,7 +32,7 @@ pub struct Cycle<G, W> {
 }
 
 impl<G, W: Copy> Cycle<G, W> {
-    /// The walk of `walker`, again and again.
+    /// The walk of `walker`, repeated endlessly.
     #[inline]
     pub fn new(walker: W) -> Self
         ensures start { cycle_start result ≡ walker }

@@ -5,7 +5,23 @@ ghost use Rattle.daggy_walk.specs.Parts.{filter_walker, filter_predicate};
 use crate::walker::{FiniteWalker, FusedWalker, Walker};
 use std::marker::PhantomData;
 
-/// The items of a walk that a predicate accepts.
+/// The items of a walk for which a predicate returns true.
+///
+/// # Examples
+///
+/// ```
+/// let mut dag: Dag<u32, u32> = Dag::new(rt.alloc());
+/// let sow = dag.add_node(1)?;
+/// let (_, reap) = dag.add_child(sow, 90, 2)?;
+/// let (_, _water) = dag.add_child(sow, 1, 3)?;
+///
+/// let is_long = |dag: &Dag<u32, u32>, step: &(EdgeIndex, NodeIndex)| {
+///     dag.edge_weight(step.0).is_some_and(|days| *days > 7)
+/// };
+/// let mut walk = Filter::new(dag.children(sow), is_long);
+/// assert!(rt; walk.walk_next(&dag).is_some_and(|step| step.1 == reap));
+/// assert!(rt; walk.walk_next(&dag).is_none());
+/// ```
 #[derive(Drop)]
 #[derive_where(Clone, Copy, Debug; W, P)]
 pub struct Filter<G, W, P> {
@@ -15,7 +31,7 @@ pub struct Filter<G, W, P> {
 }
 
 impl<G, W, P> Filter<G, W, P> {
-    /// The items of a walk that `predicate` accepts.
+    /// The items of a walk for which `predicate` returns true.
     #[inline]
     pub fn new(walker: W, predicate: P) -> Self
         ensures walker { filter_walker result ≡ walker }

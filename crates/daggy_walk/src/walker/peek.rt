@@ -13,9 +13,19 @@ impl<G, W: Walker<G>> Ahead<G, W, W::Item>
 where
     W::Item: Drop,
 {
-    /// The item of the next step. It is taken out of the walk now, and held until that step.
+    /// The item of the next step. The walk that it wraps takes the step now, and the item is held
+    /// until then.
     ///
     /// If the walk yields nothing, nothing is held, and the next step asks again.
+    ///
+    /// # Requires
+    ///
+    /// - The walker may take a step over `graph`: always if it calls no closure, and otherwise if
+    ///   its closure may be called with the next item.
+    ///
+    /// # Complexity
+    ///
+    /// One step of the walk, unless an item is held.
     #[inline]
     pub fn peek(&mut self, graph: &G) -> Option<&W::Item>
         requires { W.can_walk (peekable_walker self.old) graph.now }

@@ -6,9 +6,24 @@ use crate::walker::{FiniteWalker, FusedWalker, Walker};
 use std::marker::PhantomData;
 
 /// A walk whose next item can be peeked at.
+///
+/// # Examples
+///
+/// ```
+/// let mut dag: Dag<&'static str, u32> = Dag::new(rt.alloc());
+/// let sow = dag.add_node("sow")?;
+/// let (_, _reap) = dag.add_child(sow, 90, "reap")?;
+/// let (_, water) = dag.add_child(sow, 1, "water")?;
+///
+/// let mut walk = Peekable::new(dag.children(sow));
+/// assert!(rt; walk.peek(&dag).is_some_and(|step| step.1 == water));
+/// // The item is still ahead.
+/// assert!(rt; walk.walk_next(&dag).is_some_and(|step| step.1 == water));
+/// ```
 pub type Peekable<G, W> = Ahead<G, W, <W as Walker<G>>::Item>;
 
-/// A [`Peekable`] walk, whose items are of type `T`.
+/// The type behind [`Peekable`], spelled out because an alias cannot have methods: write
+/// `Peekable<G, W>`. `T` is the type of the items.
 #[derive(Drop)]
 #[derive_where(Clone, Copy, Debug; W, T)]
 pub struct Ahead<G, W, T> {

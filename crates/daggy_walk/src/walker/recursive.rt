@@ -7,13 +7,15 @@ use crate::walker::Walker;
 use daggy_visit::visit::GraphBase;
 use std::marker::PhantomData;
 
-/// A walk from a node to the one that a function chooses, and so on.
+/// A walk in which a closure chooses each next node.
 ///
-/// If the function returns `None` the walk stays where it is, and asks again at its next step. It
-/// may never end, so it is not a [`FiniteWalker`](crate::walker::FiniteWalker).
+/// If the closure returns `None`, the walk yields `None` and stays at its node; the next step calls
+/// the closure again. It may never end, so it is not a
+/// [`FiniteWalker`](crate::walker::FiniteWalker).
 pub type Recursive<G, F> = Led<G, <G as GraphBase>::NodeId, F>;
 
-/// A [`Recursive`] walk, whose nodes are named by `N`.
+/// The type behind [`Recursive`], spelled out because an alias cannot have methods: write
+/// `Recursive<G, F>`. `N` is the type that identifies nodes.
 #[derive(Drop)]
 #[derive_where(Clone, Copy, Debug; N, F)]
 pub struct Led<G, N, F> {
@@ -41,7 +43,16 @@ impl<G: GraphBase, F> Led<G, G::NodeId, F>
 where
     F: FnMut(&G, G::NodeId) -> Option<(G::EdgeId, G::NodeId)>,
 {
-    /// Takes one step, as [`Walker::walk_next`].
+    /// Takes one step, and returns the edge and the node that the closure chose.
+    /// [`Walker::walk_next`] does the same, for code that takes any walker.
+    ///
+    /// # Requires
+    ///
+    /// - The closure may be called with every node that the walk can come to.
+    ///
+    /// # Complexity
+    ///
+    /// One call of the closure.
     #[inline]
     pub fn next(&mut self, graph: &G) -> Option<(G::EdgeId, G::NodeId)>
         requires { LeadsOn F.FnMut graph.now (recursive_node self.old)

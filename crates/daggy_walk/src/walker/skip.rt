@@ -7,7 +7,20 @@ use std::marker::PhantomData;
 
 /// A walk without its first items, which are skipped in the first step.
 ///
-/// So the first step is O(skipped steps), even if the walk ends before.
+/// So the first step takes O(skipped steps), even if the walk ends before.
+///
+/// # Examples
+///
+/// ```
+/// let mut dag: Dag<&'static str, u32> = Dag::new(rt.alloc());
+/// let sow = dag.add_node("sow")?;
+/// let (_, reap) = dag.add_child(sow, 90, "reap")?;
+/// let (_, _water) = dag.add_child(sow, 1, "water")?;
+///
+/// let mut walk = Skip::new(dag.children(sow), 1);
+/// assert!(rt; walk.walk_next(&dag).is_some_and(|step| step.1 == reap));
+/// assert!(rt; walk.walk_next(&dag).is_none());
+/// ```
 #[derive(Drop)]
 #[derive_where(Clone, Copy, Debug; W)]
 pub struct Skip<G, W> {

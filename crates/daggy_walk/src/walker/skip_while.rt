@@ -5,9 +5,25 @@ ghost use Rattle.daggy_walk.specs.Parts.{skip_while_walker, skip_while_predicate
 use crate::walker::{FiniteWalker, FusedWalker, Walker};
 use std::marker::PhantomData;
 
-/// A walk from the first item on that a predicate rejects.
+/// The items of a walk, beginning with the first for which a predicate returns false.
 ///
 /// The predicate is called only in the first step, and dropped then.
+///
+/// # Examples
+///
+/// ```
+/// let mut dag: Dag<u32, u32> = Dag::new(rt.alloc());
+/// let sow = dag.add_node(1)?;
+/// let (_, reap) = dag.add_child(sow, 90, 2)?;
+/// let (_, _water) = dag.add_child(sow, 1, 3)?;
+///
+/// let is_short = |dag: &Dag<u32, u32>, step: &(EdgeIndex, NodeIndex)| {
+///     dag.edge_weight(step.0).is_some_and(|days| *days <= 7)
+/// };
+/// let mut walk = SkipWhile::new(dag.children(sow), is_short);
+/// assert!(rt; walk.walk_next(&dag).is_some_and(|step| step.1 == reap));
+/// assert!(rt; walk.walk_next(&dag).is_none());
+/// ```
 #[derive(Drop)]
 #[derive_where(Clone, Copy, Debug; W, P)]
 pub struct SkipWhile<G, W, P> {
@@ -17,7 +33,7 @@ pub struct SkipWhile<G, W, P> {
 }
 
 impl<G, W, P> SkipWhile<G, W, P> {
-    /// A walk from the first item on that `predicate` rejects.
+    /// The items of a walk, beginning with the first for which `predicate` returns false.
     #[inline]
     pub fn new(walker: W, predicate: P) -> Self
         ensures walker { skip_while_walker result ≡ walker }

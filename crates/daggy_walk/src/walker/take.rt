@@ -8,6 +8,19 @@ use std::marker::PhantomData;
 /// The first steps of a walk. After that it yields nothing, and its walker is not asked any more.
 ///
 /// Steps that yield nothing count too.
+///
+/// # Examples
+///
+/// ```
+/// let mut dag: Dag<&'static str, u32> = Dag::new(rt.alloc());
+/// let sow = dag.add_node("sow")?;
+/// let (_, _reap) = dag.add_child(sow, 90, "reap")?;
+/// let (_, water) = dag.add_child(sow, 1, "water")?;
+///
+/// let mut walk = Take::new(dag.children(sow), 1);
+/// assert!(rt; walk.walk_next(&dag).is_some_and(|step| step.1 == water));
+/// assert!(rt; walk.walk_next(&dag).is_none());
+/// ```
 #[derive(Drop)]
 #[derive_where(Clone, Copy, Debug; W)]
 pub struct Take<G, W> {

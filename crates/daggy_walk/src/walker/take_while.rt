@@ -5,9 +5,25 @@ ghost use Rattle.daggy_walk.specs.Parts.{take_while_walker, take_while_predicate
 use crate::walker::{FiniteWalker, FusedWalker, Walker};
 use std::marker::PhantomData;
 
-/// A walk up to, not including, the first item that a predicate rejects.
+/// The items of a walk before the first for which a predicate returns false.
 ///
 /// The walker is dropped then. If it merely yields nothing it is kept, and the walk may continue.
+///
+/// # Examples
+///
+/// ```
+/// let mut dag: Dag<u32, u32> = Dag::new(rt.alloc());
+/// let sow = dag.add_node(1)?;
+/// let (_, _reap) = dag.add_child(sow, 90, 2)?;
+/// let (_, water) = dag.add_child(sow, 1, 3)?;
+///
+/// let is_short = |dag: &Dag<u32, u32>, step: &(EdgeIndex, NodeIndex)| {
+///     dag.edge_weight(step.0).is_some_and(|days| *days <= 7)
+/// };
+/// let mut walk = TakeWhile::new(dag.children(sow), is_short);
+/// assert!(rt; walk.walk_next(&dag).is_some_and(|step| step.1 == water));
+/// assert!(rt; walk.walk_next(&dag).is_none());
+/// ```
 #[derive(Drop)]
 #[derive_where(Clone, Copy, Debug; W, P)]
 pub struct TakeWhile<G, W, P> {
@@ -17,7 +33,7 @@ pub struct TakeWhile<G, W, P> {
 }
 
 impl<G, W, P> TakeWhile<G, W, P> {
-    /// A walk up to, not including, the first item that `predicate` rejects.
+    /// The items of a walk before the first for which `predicate` returns false.
     #[inline]
     pub fn new(walker: W, predicate: P) -> Self
         ensures walker { take_while_walker result ≡ Some walker }

@@ -1,4 +1,4 @@
-use Rattle.std.proofs.Common.{◌≡◌, ◌≢◌, get_or, ap, ◌∙◌, arith}
+use Rattle.std.proofs.Common.{◌≡◌, ◌≢◌, get_or, set, ap, ◌∙◌, arith}
 use Rattle.daggy_reduction.proofs.ListedArcs.{row_start, row_edge, row_less, row_counted, row_has_room, row_whole}
 use Rattle.daggy_reduction.proofs.ListedArcs.{row_low, row_on}
 use Rattle.daggy_reduction.proofs.arcs.list_row.Goals as goal
@@ -39,7 +39,7 @@ edges-preserved g c =
     c.cursor-place.ensures 0 ∙ ap (λ z. get_or places z 0) c.index-in-edges.ensures.value in
     row_on c.requires.well_formed c.edges.invariant here c.look-v.ensures.gives
     (record { place = c.cursor-place.result; edge = c.edges.e }) (cc) at c.look-v.ensures.same c.look-v.ensures.counted _
-    c.write_arc.ensures
+    (c.write_arc.ensures ∙ ap (λ z. set c.edges.arcs c.edges.end z) c.new.ensures)
 
 pub returns-clause-listed : goal.returns-clause-listed
 returns-clause-listed g c = row_whole c.requires.well_formed c.edges.invariant (cc)

@@ -2,7 +2,9 @@ use Rattle.std.proofs.Common.{◌≡◌, ℕ, ◌-◌, ◌<◌, ◌≤◌, suc, 
 use Rattle.std.proofs.Common.{is_some}
 use Rattle.std.proofs.lemmas.List.{length-map, length-take-le}
 use Rattle.daggy_base.proofs.OutEdgesRead.{edge_below, below_bound}
-use Rattle.daggy_reduction.proofs.BlockFlags.{work_start, work_on, work_done, work_listed, arcs_are, passed_on}
+use Rattle.daggy_reduction.specs.Blocks.{segment_at}
+use Rattle.daggy_reduction.proofs.CountedArcs.{sum_up}
+use Rattle.daggy_reduction.proofs.BlockFlags.{work_start, work_on, work_paid, work_done, work_listed, arcs_are, passed_on}
 use Rattle.daggy_reduction.proofs.block.flag_block.Given.{Over}
 use Rattle.daggy_reduction.proofs.block.flag_block.Goals.{After-block_at-block}
 use Rattle.daggy_reduction.proofs.block.flag_block.Goals as goal
@@ -19,10 +21,16 @@ within g c =
 
 pub nodes-init : goal.nodes-init
 nodes-init g c =
-    work_start _ c.args.rows.now c.args.arcs.now c.args.segments.now refl refl
-    (omega (arith, c.block_at-block.ensures.begins, c.block_at-block.ensures.some))
-    (within g (goal.at.nodes-init g c).After-block_at-block)
-    (rw c.block_at-block.ensures.begins c.requires.listed)
+    record {
+      working =
+          work_start _ c.args.rows.now c.args.arcs.now c.args.segments.now refl refl
+          (omega (arith, c.block_at-block.ensures.begins, c.block_at-block.ensures.some))
+          (within g (goal.at.nodes-init g c).After-block_at-block)
+          (rw c.block_at-block.ensures.begins c.requires.listed);
+      same = refl;
+      looked = omega arith;
+      paid = omega arith;
+    }
 
 -- the place of the node that is next, and how many are left
 next_is : (k : ℕ) → 0 < k → suc (k - 1) ≡ k
@@ -31,13 +39,13 @@ next_is k some = omega (arith, some)
 pub reach_from-reached-requires-clause-passed_on : goal.reach_from-reached-requires-clause-passed_on
 reach_from-reached-requires-clause-passed_on g c =
     let b = (goal.at.reach_from-reached-requires-clause-passed_on g c).After-block_at-block in
-    passed_on c.requires.well_formed c.requires.placed (within g b) c.nodes.invariant (c.nodes.k - 1)
+    passed_on c.requires.well_formed c.requires.placed (within g b) c.nodes.invariant.working (c.nodes.k - 1)
     (next_is c.nodes.k c.nodes-test.true)
 
 pub flag_indirect-end-requires-clause-real : goal.flag_indirect-end-requires-clause-real
 flag_indirect-end-requires-clause-real g c a has =
     let b = (goal.at.flag_indirect-end-requires-clause-real g c).After-block_at-block in
-    let at = (arcs_are c.requires.well_formed c.requires.placed (within g b) c.nodes.invariant (c.nodes.k - 1)
+    let at = (arcs_are c.requires.well_formed c.requires.placed (within g b) c.nodes.invariant.working (c.nodes.k - 1)
     (next_is c.nodes.k c.nodes-test.true)).real a has in
     edge_below g.Ix.IndexType.greatest (g.S.EdgeSource.graph c.args.source.now) c.requires.well_formed
     (g.Ix.IndexType.number a.edge) at.edge at.at
@@ -45,7 +53,7 @@ flag_indirect-end-requires-clause-real g c a has =
 pub flag_indirect-end-requires-clause-flags_fit : goal.flag_indirect-end-requires-clause-flags_fit
 flag_indirect-end-requires-clause-flags_fit g c a has =
     let b = (goal.at.flag_indirect-end-requires-clause-flags_fit g c).After-block_at-block in
-    let at = (arcs_are c.requires.well_formed c.requires.placed (within g b) c.nodes.invariant (c.nodes.k - 1)
+    let at = (arcs_are c.requires.well_formed c.requires.placed (within g b) c.nodes.invariant.working (c.nodes.k - 1)
     (next_is c.nodes.k c.nodes-test.true)).real a has in
     omega (
       arith,
@@ -58,7 +66,7 @@ flag_indirect-end-requires-clause-flags_fit g c a has =
 pub nodes-preserved : goal.nodes-preserved
 nodes-preserved g c =
     let number = g.Ix.IndexType.number in
-    let s = c.nodes.invariant in
+    let s = c.nodes.invariant.working in
     let m = c.nodes.k - 1 in
     let inside = within g (goal.at.nodes-preserved g c).After-block_at-block in
     let m_is : suc m ≡ c.nodes.k = next_is c.nodes.k c.nodes-test.true in
@@ -67,24 +75,52 @@ nodes-preserved g c =
     let kept : length (map number c.flag_indirect-end.new.flags) ≡ length (map number c.nodes.flags) =
     length-map c.flag_indirect-end.new.flags number ∙ c.flag_indirect-end.ensures.flags_kept
     ∙ sym (length-map c.nodes.flags number) in
-    work_on c.requires.well_formed c.requires.placed inside s m m_is c.reach_from-reached.result.direct
-    c.reach_from-reached.result.indirect c.union.result c.reach_from-reached.ensures.direct
-    c.reach_from-reached.ensures.indirect (map number c.flag_indirect-end.new.flags) c.flag_indirect-end.ensures.flagged
-    c.union.ensures c.flag_indirect-end.result c.flag_indirect-end.new.arcs c.flag_indirect-end.ensures.left
-    (set c.nodes.rows m c.union.result) refl room (length-set c.nodes.rows m c.union.result) kept
-    _ refl
-    (omega (arith, s.parted, c.requires.all, length-take-le c.args.count c.args.work.now.nodes c.requires.within))
-    (omega (arith, c.block_at-block.ensures.begins, c.block_at-block.ensures.some))
+    let fits : length (take c.args.count c.args.work.now.nodes) ≤ length c.nodes.segments =
+    omega (arith, s.parted, c.requires.all, length-take-le c.args.count c.args.work.now.nodes c.requires.within) in
+    let left = c.flag_indirect-end.ensures.left in
+    record {
+      working =
+          work_on c.requires.well_formed c.requires.placed inside s m m_is c.reach_from-reached.result.direct
+          c.reach_from-reached.result.indirect c.union.result c.reach_from-reached.ensures.direct
+          c.reach_from-reached.ensures.indirect (map number c.flag_indirect-end.new.flags)
+          c.flag_indirect-end.ensures.flagged c.union.ensures c.flag_indirect-end.result c.flag_indirect-end.new.arcs left
+          (set c.nodes.rows m c.union.result) refl room (length-set c.nodes.rows m c.union.result) kept
+          _ refl fits (omega (arith, c.block_at-block.ensures.begins, c.block_at-block.ensures.some));
+      same = c.flag_indirect-end.ensures.same ∙ c.reach_from-reached.ensures.same ∙ c.nodes.invariant.same;
+      looked =
+          omega (
+            arith,
+            c.flag_indirect-end.ensures.looked,
+            c.reach_from-reached.ensures.counted,
+            c.nodes.invariant.looked,
+          );
+      paid =
+          work_paid c.requires.well_formed c.requires.placed inside s m m_is (g.S.EdgeSource.looks c.nodes.source)
+          (g.S.EdgeSource.looks c.flag_indirect-end.new.source) _ c.nodes.invariant.paid
+          (omega (arith, c.flag_indirect-end.ensures.counted, c.reach_from-reached.ensures.counted)) fits
+          c.flag_indirect-end.result left.from left.till refl;
+    }
 
 pub returns-clause-flagged : goal.returns-clause-flagged
 returns-clause-flagged g c =
     rw (← c.block_at-block.ensures.begins)
     (work_done c.requires.well_formed c.requires.placed
-    (within g (goal.at.returns-clause-flagged g c).After-block_at-block) c.nodes.invariant
+    (within g (goal.at.returns-clause-flagged g c).After-block_at-block) c.nodes.invariant.working
     (omega (arith, c.nodes-test.false)))
 
 pub returns-clause-listed : goal.returns-clause-listed
 returns-clause-listed g c =
     work_listed c.requires.well_formed c.requires.placed
-    (within g (goal.at.returns-clause-listed g c).After-block_at-block) c.nodes.invariant
+    (within g (goal.at.returns-clause-listed g c).After-block_at-block) c.nodes.invariant.working
     (omega (arith, c.nodes-test.false))
+
+pub returns-clause-counted : goal.returns-clause-counted
+returns-clause-counted g c =
+    let inside = within g (goal.at.returns-clause-counted g c).After-block_at-block in
+    omega (
+      arith,
+      c.nodes.invariant.paid,
+      c.requires.listed.few,
+      sum_up (λ k. (segment_at c.args.segments.now k).end - (segment_at c.args.segments.now k).begin)
+          c.block_at-block.result.high (length (take c.args.count c.args.work.now.nodes)) inside,
+    )

@@ -1,6 +1,9 @@
-use Rattle.std.proofs.Common.{◌≡◌, length, map, take, sym, ◌∙◌, arith}
+use Rattle.std.proofs.Common.{◌≡◌, length, map, take, refl, sym, ◌∙◌, arith}
 use Rattle.std.proofs.lemmas.List.{length-map, length-take-le}
+use Rattle.std.proofs.Math.Nat.{add-mul}
+use Rattle.daggy_base.specs.Graph.{edge_count}
 use Rattle.daggy_reduction.proofs.BlockSweep.{blocks_start, blocks_on, blocks_exact}
+use Rattle.daggy_reduction.proofs.BlockLooks.{block_paid, blocks_full, blocks_paid}
 use Rattle.daggy_reduction.proofs.blocks.flag_blocks.Given.{Over}
 use Rattle.daggy_reduction.proofs.blocks.flag_blocks.Goals.{After-list_below-count}
 use Rattle.daggy_reduction.proofs.blocks.flag_blocks.Goals as goal
@@ -20,16 +23,31 @@ long g c =
 pub sweep-init : goal.sweep-init
 sweep-init g c =
     let number = g.Ix.IndexType.number in
-    blocks_start _ (map number c.unflag.new.flags)
-    (length-map c.unflag.new.flags number ∙ c.unflag.ensures.kept) c.unflag.ensures.none c.list_arcs.new.arcs
-    c.list_arcs.new.segments c.list_arcs.ensures.segments_kept (rw c.list_arcs.ensures.same c.list_arcs.ensures.listed)
+    let edges = edge_count (g.S.EdgeSource.graph c.args.source.now) in
+    let same = c.list_below-count.ensures.same in
+    record {
+      blocks =
+          blocks_start _ (map number c.unflag.new.flags)
+          (length-map c.unflag.new.flags number ∙ c.unflag.ensures.kept) c.unflag.ensures.none c.list_arcs.new.arcs
+          c.list_arcs.new.segments c.list_arcs.ensures.segments_kept (rw same at c.list_arcs.ensures.listed);
+      same = c.list_arcs.ensures.same ∙ same;
+      looked = omega (arith, c.list_arcs.ensures.looked, c.list_below-count.ensures.looked);
+      full = λ more. refl;
+      paid =
+          omega (
+            arith,
+            rw same at c.list_arcs.ensures.counted,
+            c.list_below-count.ensures.counted,
+            add-mul g.L.ListArcs.passes 1 edges,
+          );
+    }
 
 pub flag_block-low-requires-clause-listed : goal.flag_block-low-requires-clause-listed
-flag_block-low-requires-clause-listed g c = c.sweep.invariant.listed
+flag_block-low-requires-clause-listed g c = rw c.sweep.invariant.same c.sweep.invariant.blocks.listed
 
 pub flag_block-low-requires-clause-rows_fit : goal.flag_block-low-requires-clause-rows_fit
 flag_block-low-requires-clause-rows_fit g c =
-    omega (arith, c.list_below-count.ensures.low, c.requires.rows_fit, c.sweep.invariant.roomy)
+    omega (arith, c.list_below-count.ensures.low, c.requires.rows_fit, c.sweep.invariant.blocks.roomy)
 
 pub sweep-preserved : goal.sweep-preserved
 sweep-preserved g c =
@@ -38,14 +56,32 @@ sweep-preserved g c =
     let made = c.flag_block-low.ensures in
     let kept : length (map number c.flag_block-low.new.flags) ≡ length (map number c.sweep.flags) =
     length-map c.flag_block-low.new.flags number ∙ made.kept ∙ sym (length-map c.sweep.flags number) in
-    blocks_on c.sweep.invariant c.flag_block-low.result (omega (arith, made.last, sized)) made.some
-    (length c.flag_block-low.new.rows) (map number c.flag_block-low.new.flags) made.rows_kept kept made.flagged
-    c.flag_block-low.new.arcs c.flag_block-low.new.segments made.segments_kept made.listed
+    let same = c.sweep.invariant.same in
+    record {
+      blocks =
+          blocks_on c.sweep.invariant.blocks c.flag_block-low.result (omega (arith, made.last, sized)) made.some
+          (length c.flag_block-low.new.rows) (map number c.flag_block-low.new.flags) made.rows_kept kept
+          (rw same at made.flagged) c.flag_block-low.new.arcs c.flag_block-low.new.segments made.segments_kept
+          (rw same at made.listed);
+      same = made.same ∙ same;
+      looked = omega (arith, made.looked, c.sweep.invariant.looked);
+      full = λ more. blocks_full c.sweep.low c.flag_block-low.result (c.sweep.invariant.full c.sweep-test.true) (made.full more);
+      paid =
+          block_paid (edge_count (g.S.EdgeSource.graph c.args.source.now)) _ c.sweep.low c.flag_block-low.result
+          (g.S.EdgeSource.looks c.sweep.source) (g.S.EdgeSource.looks c.flag_block-low.new.source)
+          (c.sweep.invariant.full c.sweep-test.true) made.some c.sweep.invariant.paid (rw same at made.counted);
+    }
 
 pub returns-clause-flagged : goal.returns-clause-flagged
 returns-clause-flagged g c =
     let sized = long g (goal.at.returns-clause-flagged g c).After-list_below-count in
     let listed = c.list_below-count.ensures in
-    blocks_exact c.sweep.invariant (c.list_arcs.ensures.same ∙ listed.same)
+    blocks_exact c.sweep.invariant.blocks refl
     c.node_bound-well_formed.ensures.well_formed listed.placed (map g.Ix.IndexType.number c.args.roots.now)
     listed.below (omega (arith, c.sweep-test.false, sized))
+
+pub returns-clause-counted : goal.returns-clause-counted
+returns-clause-counted g c =
+    let sized = long g (goal.at.returns-clause-counted g c).After-list_below-count in
+    blocks_paid (edge_count (g.S.EdgeSource.graph c.args.source.now)) _ _ g.L.ListArcs.passes c.sweep.low _
+    (omega (arith, c.sweep.invariant.blocks.within, sized, c.list_below-count.ensures.few)) c.sweep.invariant.paid

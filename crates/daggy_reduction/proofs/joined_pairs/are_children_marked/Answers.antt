@@ -1,6 +1,6 @@
 use Rattle.std.proofs.Common.{◌≡◌, ◌≢◌, true, false, get_or, refl, sym, ap, ◌∙◌, arith}
 use Rattle.std.proofs.lemmas.Bool.{false≢true}
-use Rattle.daggy_reduction.proofs.Children.{looking_edge, looked_low, looked_child, looking_on, all_looked}
+use Rattle.daggy_reduction.proofs.Children.{looking_edge, looking_less, looked_low, looked_child, looking_on, all_looked}
 use Rattle.daggy_reduction.proofs.joined_pairs.are_children_marked.Goals as goal
 
 pub look-v-requires : goal.look-v-requires
@@ -39,3 +39,12 @@ pub returns-clause-decided : goal.returns-clause-decided
 returns-clause-decided g c =
     let at_end : g.Ix.IndexType.number c.edges.e ≡ g.Ix.IndexType.greatest = cc in
     (λ t. all_looked c.requires.well_formed c.edges.invariant at_end, λ all. refl)
+
+pub returns-then-not-is_marked-clause-counted : goal.returns-then-not-is_marked-clause-counted
+returns-then-not-is_marked-clause-counted g c =
+    omega (
+      arith,
+      looking_less c.requires.well_formed c.edges.invariant (λ h. c.edges-test.true cc),
+      c.edges.invariant.counted,
+      c.look-v.ensures.counted,
+    )

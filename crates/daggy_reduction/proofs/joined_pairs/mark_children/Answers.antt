@@ -1,7 +1,7 @@
 use Rattle.std.proofs.Common.{◌≡◌, ◌≢◌, ◌<◌, Bool, true, false, inl, inr, List, length, get_or, set, sym, ap, subst}
 use Rattle.std.proofs.Common.{◌∙◌, arith}
 use Rattle.daggy_search.specs.Work.{Work}
-use Rattle.daggy_reduction.proofs.Children.{Looking, Marking, looking_edge, looked_low, looked_child, looking_on}
+use Rattle.daggy_reduction.proofs.Children.{Looking, Marking, looking_edge, looking_whole, looked_low, looked_child, looking_on}
 use Rattle.daggy_reduction.proofs.Children.{all_looked, mark_one, marks_grow}
 use Rattle.daggy_reduction.proofs.joined_pairs.mark_children.Goals as goal
 
@@ -54,3 +54,6 @@ returns-clause-marked g c =
     let all = all_looked c.requires.well_formed c.edges.invariant.looking at_end in
     let marking = c.edges.invariant.marking in
     λ n. (marking.only n, λ m. elim m [ inl before ↦ marking.kept n before | inr joined ↦ all n joined ])
+
+pub returns-clause-counted : goal.returns-clause-counted
+returns-clause-counted g c = looking_whole c.requires.well_formed c.edges.invariant.looking (cc)

@@ -4,7 +4,7 @@ use Rattle.daggy_reduction.proofs.reduce.remove_edges.Given as goal
 
 abbrev pub invariant-edges : goal.invariant-edges
 invariant-edges g l =
-    Removing g.S.Store.KIND (g.S.EdgeSource.graph l.fn.store) (g.S.EdgeSource.graph l.store)
+    Removing g.S.ReadStore.KIND (g.S.EdgeSource.graph l.fn.store) (g.S.EdgeSource.graph l.store)
     (map g.Ix.IndexType.number l.fn.edges) l.left
     (g.S.EdgeSource.looks l.fn.store) (g.S.EdgeSource.looks l.store)
 

@@ -34,11 +34,11 @@ handed g c =
 reduction : (g : Over) (c : After-remove_edges g)
     → map g.Ix.IndexType.number c.front.result.now
     ≡ map g.Ix.IndexType.number (take c.leave_redundant_either_way-count.result c.leave_redundant_either_way-count.new.scratch.found)
-    → IsReduction g.S.Store.KIND (map g.Ix.IndexType.number c.args.roots.now)
+    → IsReduction g.S.ReadStore.KIND (map g.Ix.IndexType.number c.args.roots.now)
     (g.S.EdgeSource.graph c.args.store.now) (g.S.EdgeSource.graph c.remove_edges.new.store)
 reduction g c is =
     let found = c.leave_redundant_either_way-count.ensures in
-    reduced_so g.S.Store.KIND (map g.Ix.IndexType.number c.args.roots.now) (g.S.EdgeSource.graph c.args.store.now) is
+    reduced_so g.S.ReadStore.KIND (map g.Ix.IndexType.number c.args.roots.now) (g.S.EdgeSource.graph c.args.store.now) is
     found.same c.remove_edges.ensures.removed found.ascending found.exact
 
 pub remove_edges-requires-clause-ascending : goal.remove_edges-requires-clause-ascending
@@ -66,14 +66,14 @@ returns-clause-reduced g c =
 pub returns-clause-fewer : goal.returns-clause-fewer
 returns-clause-fewer g c =
     let at = goal.at.returns-clause-fewer g c in
-    law_fewer g.S.Store.KIND (map g.Ix.IndexType.number c.args.roots.now) (g.S.EdgeSource.graph c.args.store.now)
+    law_fewer g.S.ReadStore.KIND (map g.Ix.IndexType.number c.args.roots.now) (g.S.EdgeSource.graph c.args.store.now)
     (g.S.EdgeSource.graph c.remove_edges.new.store) (acyclic_from_order _ c.requires)
-    c.node_bound-nodes.ensures.well_formed (reduction g at.After-remove_edges (handed g at.After-front))
+    c.node_bound.ensures.well_formed (reduction g at.After-remove_edges (handed g at.After-front))
 
 pub returns-clause-nodes : goal.returns-clause-nodes
 returns-clause-nodes g c =
     let handed = map g.Ix.IndexType.number c.front.result.now in
     ap (λ (z : Graph g.row.S-NodeWeight.Denot g.row.S-EdgeWeight.Denot). z.nodes) c.remove_edges.ensures.removed
-    ∙ nodes_kept g.S.Store.KIND (reverse handed) (g.S.EdgeSource.graph c.leave_redundant_either_way-count.new.store)
+    ∙ nodes_kept g.S.ReadStore.KIND (reverse handed) (g.S.EdgeSource.graph c.leave_redundant_either_way-count.new.source)
     ∙ ap (λ (z : Graph g.row.S-NodeWeight.Denot g.row.S-EdgeWeight.Denot). z.nodes)
     c.leave_redundant_either_way-count.ensures.same

@@ -1,8 +1,9 @@
 use Rattle.std.proofs.Common.{ℕ, ◌<◌, sym, subst, inl, inr, arith, Contains}
-use Rattle.daggy_base.proofs.EdgeEnds.{edge_here, parent_low}
+use Rattle.daggy_base.proofs.EdgeEnds.{edge_here, no_edge_here, parent_low}
 use Rattle.daggy_base.proofs.PathsWithNode.{bound_low}
 use Rattle.daggy_search.specs.Work.{IsSized}
 use Rattle.daggy_reduction.proofs.NotedEdges.{none_noted, passed, few, degree, noted}
+use Rattle.daggy_reduction.proofs.SeenEdges.{seen_start, seen_edge, seen_gap, seen_all}
 use Rattle.daggy_reduction.proofs.spans.note_edges.Given.{Over}
 use Rattle.daggy_reduction.proofs.spans.note_edges.Goals.{In-edges, in-Some, in_default}
 use Rattle.daggy_reduction.proofs.spans.note_edges.Goals as goal
@@ -14,7 +15,7 @@ low g c =
       arith,
       c.edges-test.true,
       c.edge_bound-bound.ensures,
-      bound_low (g.S.EdgeSource.graph c.args.store.now).edges,
+      bound_low (g.S.EdgeSource.graph c.args.source.now).edges,
       c.node_bound-well_formed.ensures.well_formed.few_edges,
     )
 
@@ -23,8 +24,9 @@ edges-init g c =
     record {
       sized = subst (λ z. IsSized z c.reset.new.work) c.begin.ensures.sized.size_is c.reset.ensures.kept;
       noted =
-          none_noted (g.S.EdgeSource.graph c.args.store.now) g.Ix.IndexType.greatest c.reset.new.work.cursors
+          none_noted (g.S.EdgeSource.graph c.args.source.now) g.Ix.IndexType.greatest c.reset.new.work.cursors
           c.reset.new.work.nodes c.reset.ensures.cursors c.reset.ensures.nodes;
+      seen = seen_start (g.S.EdgeSource.graph c.args.source.now) (g.S.EdgeSource.looks c.args.source.now);
     }
 
 pub new-requires : goal.new-requires
@@ -32,15 +34,17 @@ new-requires g c = omega (arith, low g (goal.at.new-requires g c).In-edges)
 
 pub note_edge-requires-clause-low : goal.note_edge-requires-clause-low
 note_edge-requires-clause-low g c =
-    let graph = g.S.EdgeSource.graph c.args.store.now in
+    let graph = g.S.EdgeSource.graph c.args.source.now in
     let w = c.node_bound-well_formed.ensures.well_formed in
-    let (x, at, parent, child) = edge_here graph _ c.edges.e _ c.new.ensures.number c.in-Some.ensures in
+    let (x, at, parent, child) = edge_here graph _ c.edges.e _ c.new.ensures.number
+    (rw c.edges.invariant.seen.same at c.in-Some.ensures.gives) in
     omega (arith, parent, parent_low w c.edges.e x at, c.requires.fits, c.edges.invariant.sized.size_is)
 
 pub note_edge-requires-clause-few : goal.note_edge-requires-clause-few
 note_edge-requires-clause-few g c =
-    let graph = g.S.EdgeSource.graph c.args.store.now in
-    let (x, at, parent, child) = edge_here graph _ c.edges.e _ c.new.ensures.number c.in-Some.ensures in
+    let graph = g.S.EdgeSource.graph c.args.source.now in
+    let (x, at, parent, child) = edge_here graph _ c.edges.e _ c.new.ensures.number
+    (rw c.edges.invariant.seen.same at c.in-Some.ensures.gives) in
     rw parent (omega (
       arith,
       few (c.edges.invariant.noted x.parent),
@@ -49,17 +53,19 @@ note_edge-requires-clause-few g c =
 
 pub note_edge-requires-clause-held : goal.note_edge-requires-clause-held
 note_edge-requires-clause-held g c =
-    let graph = g.S.EdgeSource.graph c.args.store.now in
+    let graph = g.S.EdgeSource.graph c.args.source.now in
     let w = c.node_bound-well_formed.ensures.well_formed in
-    let (x, at, parent, child) = edge_here graph _ c.edges.e _ c.new.ensures.number c.in-Some.ensures in
+    let (x, at, parent, child) = edge_here graph _ c.edges.e _ c.new.ensures.number
+    (rw c.edges.invariant.seen.same at c.in-Some.ensures.gives) in
     let P : ℕ → Type 0 = λ z. Contains c.args.order.now z in
     subst P (sym child) ((c.requires.ordered.exact x.child).1 (w.children c.edges.e x at))
 
 pub note_edge-requires-clause-last_held : goal.note_edge-requires-clause-last_held
 note_edge-requires-clause-last_held g c =
-    let graph = g.S.EdgeSource.graph c.args.store.now in
+    let graph = g.S.EdgeSource.graph c.args.source.now in
     let w = c.node_bound-well_formed.ensures.well_formed in
-    let (x, at, parent, child) = edge_here graph _ c.edges.e _ c.new.ensures.number c.in-Some.ensures in
+    let (x, at, parent, child) = edge_here graph _ c.edges.e _ c.new.ensures.number
+    (rw c.edges.invariant.seen.same at c.in-Some.ensures.gives) in
     rw parent (elim (c.edges.invariant.noted x.parent).child [
       | inl none ↦ inl none
       | inr j ↦ inr ((c.requires.ordered.exact _).1 (w.children j.0 _ j.2))
@@ -67,12 +73,13 @@ note_edge-requires-clause-last_held g c =
 
 pub edges-preserved : goal.edges-preserved
 edges-preserved g c =
-    let graph = g.S.EdgeSource.graph c.args.store.now in
+    let graph = g.S.EdgeSource.graph c.args.source.now in
     let w = c.node_bound-well_formed.ensures.well_formed in
     let s = c.edges.invariant in
-    elim c.match-edge_endpoints.branch [
+    elim c.match-look_at.branch [
       | in-Some b ↦
-          let (x, at, parent, child) = edge_here graph _ c.edges.e _ c.new.ensures.number b.in-Some.ensures in
+          let (x, at, parent, child) = edge_here graph _ c.edges.e _ c.new.ensures.number
+          (rw s.seen.same at b.in-Some.ensures.gives) in
           let inside = parent_low w c.edges.e x at in
           rw b.work-is record {
             sized = subst (λ z. IsSized z b.note_edge.new.work) s.sized.size_is b.note_edge.ensures.kept;
@@ -80,8 +87,16 @@ edges-preserved g c =
                 noted w s.noted x at (omega (arith, inside, c.requires.fits, s.sized.cursors_are))
                 (omega (arith, inside, c.requires.fits, s.sized.nodes_are)) (rw (← parent) b.note_edge.ensures.counted)
                 (rw (← parent, ← child) b.note_edge.ensures.child);
+            seen = seen_edge s.seen b.in-Some.ensures.same x at b.in-Some.ensures.counted;
           }
-      | in_default b ↦ rw b.work-is record { sized = s.sized; noted = passed s.noted }
+      | in_default b ↦
+          let none =
+          no_edge_here graph _ c.edges.e c.new.ensures.number (rw s.seen.same at b.in_default.ensures.gives) in
+          rw b.work-is record {
+            sized = s.sized;
+            noted = passed s.noted;
+            seen = seen_gap s.seen b.in_default.ensures.same none b.in_default.ensures.missing;
+          }
     ]
 
 pub returns-clause-degrees : goal.returns-clause-degrees
@@ -89,3 +104,6 @@ returns-clause-degrees g c = λ n. degree (c.edges.invariant.noted n)
 
 pub returns-clause-children : goal.returns-clause-children
 returns-clause-children g c = λ n. (c.edges.invariant.noted n).child
+
+pub returns-clause-counted : goal.returns-clause-counted
+returns-clause-counted g c = seen_all c.edges.invariant.seen

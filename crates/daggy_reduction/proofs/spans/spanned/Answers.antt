@@ -14,7 +14,7 @@ inside : (g : Over) (c : After-index-i g) (n : ℕ) → Contains c.args.order.no
 inside g c n h =
     omega (
       arith,
-      below_bound (g.S.EdgeSource.graph c.args.store.now).nodes n ((c.requires.ordered.exact n).0 h),
+      below_bound (g.S.EdgeSource.graph c.args.source.now).nodes n ((c.requires.ordered.exact n).0 h),
       c.requires.fits,
     )
 
@@ -26,7 +26,7 @@ here g c =
 
 -- the noted child of the next node, if it is not the end
 joined : (g : Over) (c : Then-last-end g)
-    → AreJoined (g.S.EdgeSource.graph c.args.store.now) (g.Ix.IndexType.number c.in-Some.n) c.index-last.result
+    → AreJoined (g.S.EdgeSource.graph c.args.source.now) (g.Ix.IndexType.number c.in-Some.n) c.index-last.result
 joined g c =
     let end = g.Ix.IndexType.greatest in
     let n = g.Ix.IndexType.number c.in-Some.n in
@@ -34,7 +34,7 @@ joined g c =
     c.index-last.ensures.value ∙ c.node.ensures end
     ∙ ap (λ z. get_or z c.index-i.result end) c.sum_before.ensures.same
     ∙ ap (λ z. get_or c.note_edges.new.work.nodes z end) c.index-i.ensures.value in
-    let P : ℕ → Type 0 = λ z. AreJoined (g.S.EdgeSource.graph c.args.store.now) n z in
+    let P : ℕ → Type 0 = λ z. AreJoined (g.S.EdgeSource.graph c.args.source.now) n z in
     elim (c.note_edges.ensures.children n) [
       | inl none ↦ absurd (c.if-last-end.true (read ∙ none ∙ sym (c.index-end.ensures.value ∙ c.end.ensures.value)))
       | inr j ↦ subst P (sym read) j
@@ -64,7 +64,7 @@ pub sum_before-requires-clause-low : goal.sum_before-requires-clause-low
 sum_before-requires-clause-low g c = λ n h.
     omega (
       arith,
-      below_bound (g.S.EdgeSource.graph c.args.store.now).nodes n ((c.requires.ordered.exact n).0 h),
+      below_bound (g.S.EdgeSource.graph c.args.source.now).nodes n ((c.requires.ordered.exact n).0 h),
       c.requires.fits,
       c.note_edges.ensures.kept.size_is,
     )

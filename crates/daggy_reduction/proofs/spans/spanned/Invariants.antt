@@ -6,5 +6,5 @@ invariant-nodes g l =
     record {
       can : (goal.iterator-nodes g).can_next l.n-iterator;
       ends : (goal.iterator-nodes g).is_finite l.n-iterator;
-      spanning : Spanning (g.S.EdgeSource.graph l.fn.store) l.fn.order l.n-iterator l.sum;
+      spanning : Spanning (g.S.EdgeSource.graph l.fn.source) l.fn.order l.n-iterator l.sum;
     }

@@ -1,21 +1,28 @@
 use Rattle.std.proofs.Common.{rules, ◌≡◌, ◌≢◌, ◌+◌, ◌<◌, ◌≤◌, ◌∙◌, sym, ap, refl, arith, inl, inr, false, true}
-use Rattle.std.proofs.Common.{◌↔◌, length, get_or, set, take, [], subst, ℕ}
+use Rattle.std.proofs.Common.{◌↔◌, length, get_or, set, take, drop, [], ◌∷◌, ◌++◌, subst, ℕ, is_some}
+use Rattle.std.specs.List.{Contains}
+use Rattle.std.specs.List.Sorted.{IsPermutation}
 use Rattle.std.proofs.lemmas.Option.{none-some}
-use Rattle.std.proofs.lemmas.List.{drop_all, length-take-le}
-use Rattle.daggy_base.proofs.Lists.{contains_mem, mem_contains}
+use Rattle.std.proofs.lemmas.List.{drop_all, length-set, length-take-le}
+use Rattle.std.proofs.lemmas.List.Sums.{count_by-le-length}
+use Rattle.std.proofs.lemmas.List.Sorted.{IsPermutation-trans, IsPermutation-to_front}
+use Rattle.daggy_base.proofs.Lists.{contains_mem, mem_contains, Contains-cases}
 use Rattle.daggy_base.proofs.Sorted.{distinct_from_unique}
 use Rattle.daggy_base.specs.Graph.{out_list, edge_count}
 use Rattle.daggy_base.specs.Path.{Reaches}
 use Rattle.daggy_base.specs.Cursor.{first_of}
 use Rattle.daggy_base.proofs.OutEdgesRead.{below_bound}
-use Rattle.daggy_search.proofs.SearchState.{Reading, starts, edge_here, child_low, child_found}
-use Rattle.daggy_search.proofs.SearchState.{moves_on, puts, reads_next, looked_once}
+use Rattle.daggy_search.specs.Work.{Work}
+use Rattle.daggy_search.proofs.SearchState.{Reading, starts, edge_here, child_low, child_found, only_reached}
+use Rattle.daggy_search.proofs.SearchState.{moves_on, puts, pops, reads_next, looked_once}
 use Rattle.daggy_search.proofs.Sized.{sized_put_node}
-use Rattle.daggy_order.proofs.BoundedSearch.{Below, Beyond, finds_first, finds_room, finds_more, few_below}
-use Rattle.daggy_order.proofs.BoundedSearch.{none_waits, first_waits, one_waits}
+use Rattle.daggy_order.proofs.BoundedSearch.{Below, Beyond, finds_first, finds_room, finds_put, few_below, rearranged}
+use Rattle.daggy_base.proofs.PathEnds.{reached_exists}
+use Rattle.daggy_order.proofs.BoundedSearch.{none_waits, first_waits}
 use Rattle.daggy_order.proofs.BoundedSearch.{looked_below, IsOver, missed, exactly, child_placed}
+use Rattle.daggy_order.proofs.WaitingNodes.{last_waits}
 use Rattle.daggy_order.proofs.order.search.reaches_below.Given.{Over}
-use Rattle.daggy_order.proofs.order.search.reaches_below.Goals.{Start, At-steps, Then-head-count, After-look-v, Then-not-is_entered}
+use Rattle.daggy_order.proofs.order.search.reaches_below.Goals.{Start, At-steps, Then-head-tail, After-look-v, Then-not-is_entered}
 use Rattle.daggy_order.proofs.order.search.reaches_below.Goals as goal
 
 -- the first node is within the lists
@@ -34,7 +41,7 @@ in_use g c =
     omega (arith, c.steps.invariant.1.fits, sized.entered_are, sized.nodes_are)
 
 -- at the end all nodes are met that from reaches and that are lower than the limit, and to is not met
-ended : (g : Over) (c : Then-head-count g)
+ended : (g : Over) (c : Then-head-tail g)
     → (Reaches (g.S.EdgeSource.graph c.args.source.now) (g.Ix.IndexType.number c.args.from)
     (g.Ix.IndexType.number c.args.to) → ⊥)
     × (
@@ -49,14 +56,14 @@ ended g c =
     let at_end : g.Ix.IndexType.number c.steps.e ≡ g.Ix.IndexType.greatest = cc in
     let sized = c.steps.invariant.0.sized in
     let long =
-    length-take-le c.steps.count c.steps.work.nodes
-    (omega (arith, c.steps.invariant.1.fits, sized.entered_are, sized.nodes_are)) in
+    length-take-le c.steps.tail c.steps.work.nodes
+    (omega (arith, c.steps.invariant.3, c.steps.invariant.1.fits, sized.entered_are, sized.nodes_are)) in
     let over : IsOver g.Ix.IndexType.greatest _ _ c.args.links.now.labels c.args.limit (g.Ix.IndexType.number c.args.to) =
     record {
       ascending = c.requires.ascending;
       so_far = c.steps.invariant.0;
       ended = at_end;
-      empty = drop_all (c.steps.head + 1) (take c.steps.count c.steps.work.nodes) (omega (arith, c.if-head-count.true, long));
+      empty = drop_all c.steps.head (take c.steps.tail c.steps.work.nodes) (omega (arith, c.if-head-tail.true, long));
       limit_is = c.requires.limit_is;
     } in
     (missed c.requires.well_formed over, exactly c.requires.well_formed over)
@@ -133,18 +140,20 @@ steps-init g c =
           c.requires.fits (sized_put_node sized 0 c.of_node.result) c.index.ensures.value c.first-e.ensures),
       rw (c.put_node.ensures, c.enter.ensures) found,
       omega arith,
+      omega arith,
+      omega arith,
     )
 
-pub returns-then-head-count-clause-decided : goal.returns-then-head-count-clause-decided
-returns-then-head-count-clause-decided g c =
-    let at = goal.at.returns-then-head-count-clause-decided g c in
-    (λ h. absurd (none-some c.steps.count (sym h)), λ r. absurd ((ended g at.Then-head-count).0 r))
+pub returns-then-head-tail-clause-decided : goal.returns-then-head-tail-clause-decided
+returns-then-head-tail-clause-decided g c =
+    let at = goal.at.returns-then-head-tail-clause-decided g c in
+    (λ h. absurd (none-some _ (sym h)), λ r. absurd ((ended g at.Then-head-tail).0 r))
 
-pub returns-then-head-count-clause-found : goal.returns-then-head-count-clause-found
-returns-then-head-count-clause-found g c =
+pub returns-then-head-tail-clause-found : goal.returns-then-head-tail-clause-found
+returns-then-head-tail-clause-found g c =
     let f = c.steps.invariant.1 in
-    let is = (ended g (goal.at.returns-then-head-count-clause-found g c).Then-head-count).1 in (
-      in_use g (goal.at.returns-then-head-count-clause-found g c).At-steps,
+    let is = (ended g (goal.at.returns-then-head-tail-clause-found g c).Then-head-tail).1 in (
+      in_use g (goal.at.returns-then-head-tail-clause-found g c).At-steps,
       (
         distinct_from_unique (take c.steps.count c.steps.work.nodes) f.once,
         λ n. (
@@ -154,40 +163,44 @@ returns-then-head-count-clause-found g c =
       ),
     )
 
-pub returns-then-head-count-clause-counted : goal.returns-then-head-count-clause-counted
-returns-then-head-count-clause-counted g c =
+pub returns-then-head-tail-clause-counted : goal.returns-then-head-tail-clause-counted
+returns-then-head-tail-clause-counted g c =
     few_below c.requires.well_formed c.args.links.now.labels c.args.limit c.requires.ascending c.steps.invariant.0
 
-pub overflow_add-head : goal.overflow_add-head
-overflow_add-head g c =
-    let h : c.steps.head + 1 ≤ c.args.work.now.size =
-    omega (
-      arith,
-      c.steps.invariant.2,
-      c.steps.invariant.1.fits,
-      c.steps.invariant.0.sized.entered_are,
-    ) in
-    let small = c.begin.ensures.sized.small in
-    search rules
-
-pub node-requires : goal.node-requires
-node-requires g c =
-    let apart : c.steps.head + 1 ≢ c.steps.count = c.if-head-count.false in
-    omega (arith, c.steps.invariant.2, in_use g (goal.at.node-requires g c).At-steps, apart)
-
-pub steps-preserved-then-index-end : goal.steps-preserved-then-index-end
-steps-preserved-then-index-end g c =
+pub steps-preserved-then-is_last_next : goal.steps-preserved-then-is_last_next
+steps-preserved-then-is_last_next g c =
     let at_end : g.Ix.IndexType.number c.steps.e ≡ g.Ix.IndexType.greatest = cc in
-    let apart : c.steps.head + 1 ≢ c.steps.count = c.if-head-count.false in
-    let low : c.steps.head + 1 < c.steps.count = omega (arith, c.steps.invariant.2, apart) in (
-      reads_next c.requires.well_formed c.steps.invariant.0 at_end c.node.result
-          (first_waits c.steps.work.nodes low (in_use g (goal.at.steps-preserved-then-index-end g c).At-steps)
-          (c.node.ensures c.node.result))
-          (c.first-e-then-index-end.ensures
+    let apart : c.steps.head ≢ c.steps.tail = c.if-head-tail.false in
+    let some : c.steps.head < c.steps.tail = omega (arith, c.steps.invariant.2, apart) in
+    let within : c.steps.tail ≤ length c.steps.work.nodes =
+    omega (arith, c.steps.invariant.3, in_use g (goal.at.steps-preserved-then-is_last_next g c).At-steps) in (
+      pops c.requires.well_formed c.steps.invariant.0 at_end c.node.result
+          (last_waits c.steps.work.nodes some within (c.node.ensures c.node.result))
+          (c.first-e-then-is_last_next.ensures
           ∙ ap (λ n. first_of g.Ix.IndexType.greatest (out_list (g.S.EdgeSource.graph c.steps.source) n))
-          c.node-then-index-end.ensures.value),
+          c.node-then-is_last_next.ensures.value),
       c.steps.invariant.1,
-      low,
+      omega (arith, some),
+      omega (arith, c.steps.invariant.3),
+      c.steps.invariant.4,
+    )
+
+pub steps-preserved-else-is_last_next : goal.steps-preserved-else-is_last_next
+steps-preserved-else-is_last_next g c =
+    let at_end : g.Ix.IndexType.number c.steps.e ≡ g.Ix.IndexType.greatest = cc in
+    let apart : c.steps.head ≢ c.steps.tail = c.if-head-tail.false in
+    let some : c.steps.head < c.steps.tail = omega (arith, c.steps.invariant.2, apart) in
+    let within : c.steps.tail ≤ length c.steps.work.nodes =
+    omega (arith, c.steps.invariant.3, in_use g (goal.at.steps-preserved-else-is_last_next g c).At-steps) in (
+      reads_next c.requires.well_formed c.steps.invariant.0 at_end c.node-else-is_last_next.result
+          (first_waits c.steps.work.nodes some within (c.node-else-is_last_next.ensures c.node-else-is_last_next.result))
+          (c.first-e-else-is_last_next.ensures
+          ∙ ap (λ n. first_of g.Ix.IndexType.greatest (out_list (g.S.EdgeSource.graph c.steps.source) n))
+          c.node-else-is_last_next-2.ensures.value),
+      c.steps.invariant.1,
+      omega (arith, some),
+      c.steps.invariant.3,
+      c.steps.invariant.4,
     )
 
 pub look-v-requires : goal.look-v-requires
@@ -207,10 +220,47 @@ pub enter-requires-then-not-is_entered : goal.enter-requires-then-not-is_entered
 enter-requires-then-not-is_entered g c =
     omega (arith, v_low g (goal.at.enter-requires-then-not-is_entered g c).After-look-v, c.index-i.ensures.value)
 
-pub put_node-requires-then-not-is_entered : goal.put_node-requires-then-not-is_entered
-put_node-requires-then-not-is_entered g c =
-    let low = room g (goal.at.put_node-requires-then-not-is_entered g c).Then-not-is_entered in
+pub put_waiting-requires-clause-room : goal.put_waiting-requires-clause-room
+put_waiting-requires-clause-room g c =
+    let low = room g (goal.at.put_waiting-requires-clause-room g c).Then-not-is_entered in
     rw c.enter-then-not-is_entered.ensures (omega (arith, low, c.steps.invariant.0.sized.nodes_are))
+
+pub put_waiting-requires-clause-placed : goal.put_waiting-requires-clause-placed
+put_waiting-requires-clause-placed g c =
+    let at = goal.at.put_waiting-requires-clause-placed g c in
+    let s = c.steps.invariant.0 in
+    let found : (n : ℕ) → Contains (take c.steps.count c.steps.work.nodes) n → n < length c.args.links.now.labels = λ n h.
+    c.requires.placed n (reached_exists (g.S.EdgeSource.graph c.args.source.now) (g.Ix.IndexType.number c.args.from) n
+    (only_reached c.requires.well_formed s n
+    ((c.steps.invariant.1.exact n).1 (contains_mem (take c.steps.count c.steps.work.nodes) n h))).0) in
+    rw (c.enter-then-not-is_entered.ensures, c.of_node-then-not-is_entered.ensures) (λ n h.
+    elim (Contains-cases (g.Ix.IndexType.number c.look-v.result.0) n (take c.steps.count c.steps.work.nodes) h) [
+      | inl is ↦ omega (arith, is, v_placed g at.After-look-v)
+      | inr old ↦ found n old
+    ])
+
+pub overflow_add-looks : goal.overflow_add-looks
+overflow_add-looks g c =
+    let few = looked g (goal.at.overflow_add-looks g c).After-look-v in
+    let slots = c.requires.well_formed.few_edges in
+    let fits = g.met.Ix.IndexType.fits in
+    let h : c.steps.looks + 1 ≤ g.Ix.IndexType.greatest =
+    omega (
+      arith,
+      few,
+      c.look-v.ensures.counted,
+      c.steps.invariant.4,
+      count_by-le-length is_some (g.S.EdgeSource.graph c.args.source.now).edges,
+      slots,
+    ) in
+    search rules
+
+pub overflow_add-tail : goal.overflow_add-tail
+overflow_add-tail g c =
+    let h = room g (goal.at.overflow_add-tail g c).Then-not-is_entered in
+    let small = c.begin.ensures.sized.small in
+    let few : c.steps.tail + 1 ≤ c.args.work.now.size = omega (arith, h, c.steps.invariant.3) in
+    search rules
 
 pub overflow_add-count : goal.overflow_add-count
 overflow_add-count g c =
@@ -254,24 +304,26 @@ steps-preserved-then-not-is_entered g c =
     rw (← c.index-i.ensures.value) (omega (arith, c.label.ensures, c.if-label-limit.true)) in
     let s = c.steps.invariant.0 in
     let v = g.Ix.IndexType.number c.look-v.result.0 in
-    let within : c.steps.count < length c.steps.work.nodes =
-    omega (arith, room g at.Then-not-is_entered, s.sized.nodes_are) in
-    let f =
-    finds_more c.steps.invariant.1 (capacity g at.After-look-v) v (v_low g at.After-look-v)
-    (unseen g at.Then-not-is_entered) c.index-i.result v c.index-i.ensures.value refl in (
-      rw (
-        c.put_node-then-not-is_entered.ensures,
-        c.of_node-then-not-is_entered.ensures,
-        c.enter-then-not-is_entered.ensures,
-        one_waits c.steps.work.nodes {head = c.steps.head + 1} v (omega (arith, c.steps.invariant.2)) within,
-      ) (puts c.requires.well_formed s (here g at.After-look-v) c.look-v.ensures.gives c.look-v.ensures.same
-          c.look-v.ensures.counted c.index-i.ensures.value low (unseen g at.Then-not-is_entered) c.steps.count),
-      rw (
-        c.put_node-then-not-is_entered.ensures,
-        c.of_node-then-not-is_entered.ensures,
-        c.enter-then-not-is_entered.ensures,
-      ) f,
+    let waited = drop c.steps.head (take c.steps.tail c.steps.work.nodes) in
+    let new = c.put_waiting.new.work in
+    let is : new ≡ record c.steps.work { entered = set c.steps.work.entered c.index-i.result true; nodes = new.nodes } =
+    c.put_waiting.ensures.kept ∙ ap (λ (w : Work). record w { nodes = new.nodes }) c.enter-then-not-is_entered.ensures in
+    let long : length new.nodes ≡ length c.steps.work.nodes =
+    c.put_waiting.ensures.length ∙ ap (λ (w : Work). length w.nodes) c.enter-then-not-is_entered.ensures in
+    let found : IsPermutation (v ∷ take c.steps.count c.steps.work.nodes) (take (c.steps.count + 1) new.nodes) =
+    rw (c.enter-then-not-is_entered.ensures, c.of_node-then-not-is_entered.ensures) at c.put_waiting.ensures.found in
+    let waits : IsPermutation (v ∷ waited) (drop c.steps.head (take (c.steps.tail + 1) new.nodes)) =
+    rw (c.enter-then-not-is_entered.ensures, c.of_node-then-not-is_entered.ensures) at c.put_waiting.ensures.waiting in (
+      rearranged (puts c.requires.well_formed s (here g at.After-look-v) c.look-v.ensures.gives c.look-v.ensures.same
+          c.look-v.ensures.counted c.index-i.ensures.value low (unseen g at.Then-not-is_entered) c.steps.count) is
+          (long ∙ sym (length-set c.steps.work.nodes c.steps.count v))
+          (IsPermutation-trans (waited ++ v ∷ []) (v ∷ waited) (drop c.steps.head (take (c.steps.tail + 1) new.nodes))
+          (IsPermutation-to_front waited v) waits),
+      finds_put c.steps.invariant.1 (capacity g at.After-look-v) v (v_low g at.After-look-v)
+          (unseen g at.Then-not-is_entered) c.index-i.ensures.value refl (ap (λ (w : Work). w.entered) is) found,
       omega (arith, c.steps.invariant.2),
+      omega (arith, c.steps.invariant.3),
+      omega (arith, c.steps.invariant.4, c.look-v.ensures.counted),
     )
 
 pub steps-preserved-else-not-is_entered : goal.steps-preserved-else-not-is_entered
@@ -282,6 +334,8 @@ steps-preserved-else-not-is_entered g c =
           c.look-v.ensures.same c.look-v.ensures.counted (inl seen),
       c.steps.invariant.1,
       c.steps.invariant.2,
+      c.steps.invariant.3,
+      omega (arith, c.steps.invariant.4, c.look-v.ensures.counted),
     )
 
 pub steps-preserved : goal.steps-preserved
@@ -295,4 +349,6 @@ steps-preserved g c =
           c.look-v.ensures.same c.look-v.ensures.counted (inr (high, apart)),
       c.steps.invariant.1,
       c.steps.invariant.2,
+      c.steps.invariant.3,
+      omega (arith, c.steps.invariant.4, c.look-v.ensures.counted),
     )

@@ -46,9 +46,8 @@ returns-clause-listed g c =
 
 pub returns-clause-counted : goal.returns-clause-counted
 returns-clause-counted g c =
-    side_counted c.requires.well_formed c.requires.placed c.requires.arcs_fit c.nodes.invariant
-    (omega (
+    omega (
       arith,
-      c.nodes.auto.k-end,
-      length-take-le c.args.count c.args.work.now.nodes c.requires.within,
-    ))
+      side_counted c.requires.well_formed c.requires.placed c.requires.arcs_fit c.nodes.invariant
+          (omega (arith, c.nodes.auto.k-end, length-take-le c.args.count c.args.work.now.nodes c.requires.within)),
+    )

@@ -12,7 +12,7 @@ lay_out-requires-clause-arcs_fit g c =
     omega (
       arith,
       sum_same (λ j. (segment_at c.count_arcs.new.segments j).end) (times (key t) (edge_bound graph)) c.args.count
-          c.count_arcs.ensures.counted,
+          c.count_arcs.ensures.ends,
       sum_few (key t) (edge_bound graph) c.args.count,
       c.requires.arcs_fit,
     )
@@ -21,6 +21,7 @@ pub put_arcs-requires-clause-begins : goal.put_arcs-requires-clause-begins
 put_arcs-requires-clause-begins g c k low =
     let graph = g.S.EdgeSource.graph c.args.source.now in
     let t = counted graph c.args.work.now.nodes c.args.work.now.cursors c.args.count in
-    c.lay_out.ensures.begins k low
+    rw c.count_arcs.ensures.same
+    (c.lay_out.ensures.begins k low
     ∙ sum_same (λ j. (segment_at c.count_arcs.new.segments j).end) (times (key t) (edge_bound graph)) k
-    (λ j before. c.count_arcs.ensures.counted j (omega (arith, before, low)))
+    (λ j before. c.count_arcs.ensures.ends j (omega (arith, before, low))))

@@ -6,4 +6,4 @@ returns-clause-removed g c = on_some_is _ _ c.vacate_edge.ensures.removed
 
 pub returns-clause-missing : goal.returns-clause-missing
 returns-clause-missing g c =
-    none_not (λ x. x.weight) _ _ _ (c.contains_edge.ensures.0 c.if-not-contains_edge.false) c.vacate_edge.ensures.value
+    none_not (λ x. x.weight) _ _ _ (c.contains_edge_index.ensures.0 c.if-not-contains_edge_index.false) c.vacate_edge.ensures.value

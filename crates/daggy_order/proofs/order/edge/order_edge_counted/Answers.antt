@@ -1,5 +1,6 @@
-use Rattle.std.proofs.Common.{◌≡◌, ◌≢◌, ◌+◌, ◌<◌, ◌≤◌, ℕ, List, ◌++◌, ◌∙◌, sym, subst, arith}
+use Rattle.std.proofs.Common.{◌≡◌, ◌≢◌, ◌+◌, ◌<◌, ◌≤◌, ℕ, List, Option, None, Some, OnSome, ◌++◌, ◌∙◌, sym, subst, arith}
 use Rattle.std.proofs.lemmas.Bool.{false≢true}
+use Rattle.std.proofs.lemmas.Option.{none-some}
 use Rattle.daggy_base.specs.Graph.{HasNode}
 use Rattle.daggy_base.specs.Ordered.{IsOrderOf, IsParted, place, stretch, edges_from}
 use Rattle.daggy_base.proofs.Lists.{Mem, contains_mem, mem_contains}
@@ -7,9 +8,9 @@ use Rattle.std.specs.List.{range_with_len}
 use Rattle.daggy_base.proofs.Sorted.{same_place}
 use Rattle.daggy_order.proofs.OrderEdgeResult.{reached_later}
 use Rattle.daggy_order.proofs.Tails.{high, tailed_bare, bare_is}
-use Rattle.daggy_order.proofs.order.edge.order_edge.Given.{Over}
-use Rattle.daggy_order.proofs.order.edge.order_edge.Goals.{Else-index, After-flush-order-inside, After-move_reached}
-use Rattle.daggy_order.proofs.order.edge.order_edge.Goals as goal
+use Rattle.daggy_order.proofs.order.edge.order_edge_counted.Given.{Over}
+use Rattle.daggy_order.proofs.order.edge.order_edge_counted.Goals.{Else-index, After-flush-order-inside, After-move_reached}
+use Rattle.daggy_order.proofs.order.edge.order_edge_counted.Goals as goal
 
 -- the written nodes are the order before they are ordered, and nothing follows them after that
 was : (g : Over) (c : After-flush-order-inside g) → c.flush-order-inside.new.self.nodes ≡ c.args.order.now
@@ -24,7 +25,7 @@ is g c = bare_is c.move_reached.new.list.nodes _ _ c.flush-order-inside.ensures.
 pub returns-then-stands_before-clause-decided : goal.returns-then-stands_before-clause-decided
 returns-then-stands_before-clause-decided g c =
     let before = c.stands_before.ensures.0 c.if-stands_before.true in (
-      λ e. absurd (false≢true (sym e)),
+      λ e. absurd (none-some 0 (sym e)),
       λ r. absurd (omega (
         arith,
         before,
@@ -88,13 +89,18 @@ returns-clause-ordered g c =
 
 pub returns-clause-before : goal.returns-clause-before
 returns-clause-before g c =
-    let P : List ℕ → Type 0 = λ z.
-    place z (g.Ix.IndexType.number c.args.a) < place z (g.Ix.IndexType.number c.args.b) in
-    λ t. subst P (sym (is g (goal.at.returns-clause-before g c).After-move_reached)) (c.move_reached.ensures.before t)
+    let P : List ℕ → Type 0 = λ z. OnSome c.move_reached.result
+    (place z (g.Ix.IndexType.number c.args.a) < place z (g.Ix.IndexType.number c.args.b)) in
+    subst P (sym (is g (goal.at.returns-clause-before g c).After-move_reached)) c.move_reached.ensures.before
 
 pub returns-clause-kept : goal.returns-clause-kept
 returns-clause-kept g c =
     λ early. absurd (false≢true (sym c.if-stands_before.false ∙ c.stands_before.ensures.1 early))
+
+-- what follows from what is said where a value is there
+on_some : {A P Q : Type 0} (o : Option A) → OnSome o P → (P → Q) → OnSome o Q
+on_some None p f = tt
+on_some (Some x) p f = f p
 
 pub returns-clause-moved : goal.returns-clause-moved
 returns-clause-moved g c =
@@ -105,9 +111,8 @@ returns-clause-moved g c =
     let T : List ℕ → Type 0 = λ z.
     IsParted (g.S.EdgeSource.graph c.args.source.now) (g.Ix.IndexType.number c.args.a) (g.Ix.IndexType.number c.args.b)
     c.args.order.now z in
-    λ t after.
-    subst T (sym (is g at.After-move_reached)) (subst R (was g at.After-flush-order-inside)
-    (c.move_reached.ensures.moved t))
+    on_some c.move_reached.result c.move_reached.ensures.moved (λ m after.
+    subst T (sym (is g at.After-move_reached)) (subst R (was g at.After-flush-order-inside) m))
 
 pub returns-clause-same : goal.returns-clause-same
 returns-clause-same g c = c.move_reached.ensures.same
