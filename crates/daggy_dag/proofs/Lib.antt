@@ -12,10 +12,10 @@ pub mod OrderOfExisting
 pub mod NodesBelow
 pub mod NextSlots
 pub mod SlottedGraph
-pub mod JoinedByEdge
 pub mod NumberedSlots
 pub mod Retained
 pub mod ParentsSet
 pub mod EdgesSorted
-pub mod EdgesAlong
 pub mod ConnectingEdges
+pub mod WholeReductions
+pub mod Found

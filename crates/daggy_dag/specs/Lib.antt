@@ -5,5 +5,6 @@ pub mod Walks
 pub mod SlottedCells
 pub mod Recomputing
 pub mod Retaining
-pub mod EdgePaths
 pub mod Connecting
+pub mod WholeReduction
+pub mod FromGraph

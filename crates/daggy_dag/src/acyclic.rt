@@ -28,6 +28,8 @@ ghost use Rattle.daggy_dag.specs.Walks.{rest_of_walk};
 
 use daggy_base::error::{ChildError, EdgeError, NodeError};
 use daggy_base::index::{DefaultIx, Direction, EdgeIndex, IndexType, NodeIndex};
+use daggy_base::read_store::ReadStore;
+use daggy_base::source::EdgeSource;
 use daggy_base::store::Store;
 use daggy_graph::graph::DiGraph;
 use daggy_guard::guard::Guarded;
@@ -44,6 +46,7 @@ mod cursors;
 mod debug;
 mod descendants;
 mod externals;
+mod from_graph;
 mod from_slots;
 mod graph;
 mod many_edges;
@@ -55,6 +58,7 @@ mod reduction;
 mod retain;
 mod stable;
 mod topological;
+mod trying;
 mod visit;
 mod walkers;
 mod weights;
@@ -64,6 +68,7 @@ pub use comparing::same_reachability;
 pub use connecting::EdgesConnecting;
 pub use cursors::{EdgeWeightsMut, NodeWeightsMut};
 pub use externals::Externals;
+pub use from_graph::FromGraphError;
 pub use recursive::RecursiveWalk;
 pub use topological::TopologicalOrder;
 pub use walkers::{Children, Parents};
@@ -71,13 +76,15 @@ pub use walkers::{Children, Parents};
 /// A directed graph that never has a cycle, with weights of type `N` at its nodes and of type `E`
 /// at its edges, over a store `S`.
 ///
-/// [`Dag`] and [`StableDag`] are this over the two stores. Parallel edges are allowed. An edge that
-/// would close a cycle is rejected, and its weight is returned.
+/// [`Dag`] and [`StableDag`] are aliases of it, each over its own store. Parallel edges are
+/// allowed. An edge that would close a cycle is rejected, and its weight is returned.
 ///
 /// It maintains a topological order of its nodes, so an edge that agrees with the order needs no
-/// search. Adding a node reserves the memory that later cycle searches need, so those never fail.
+/// search. For any other edge only nodes between its ends are searched, as in incremental
+/// topological ordering (Pearce and Kelly 2006). Adding a node reserves the memory that later cycle
+/// searches need, so those never fail.
 #[derive(Drop)]
-pub struct Acyclic<N, E, Ix: IndexType, S: Store<Ix, NodeWeight = N, EdgeWeight = E>> {
+pub struct Acyclic<N, E, Ix: IndexType, S: EdgeSource<Ix, NodeWeight = N, EdgeWeight = E>> {
     guarded: Guarded<Ix, S>,
     node_weight: PhantomData<N>,
     edge_weight: PhantomData<E>,
@@ -88,6 +95,19 @@ pub struct Acyclic<N, E, Ix: IndexType, S: Store<Ix, NodeWeight = N, EdgeWeight 
 ///
 /// A removal moves the last element into the freed index. If indices must outlive removals, use
 /// [`StableDag`].
+///
+/// # Examples
+///
+/// ```
+/// let mut dag: Dag<&'static str, u32> = Dag::new(rt.alloc());
+/// let sow = dag.add_node("sow")?;
+/// let (days, reap) = dag.add_child(sow, 90, "reap")?;
+/// assert!(rt; dag.remove_node(sow) == Some("sow"));
+/// // The last node has moved into the freed index.
+/// assert!(rt; dag.node_weight(reap).is_none());
+/// assert!(rt; dag.node_weight(sow) == Some(&"reap"));
+/// assert!(rt; dag.edge_weight(days).is_none());
+/// ```
 pub type Dag<N, E, Ix = DefaultIx> = Acyclic<N, E, Ix, DiGraph<N, E, Ix>>;
 
 /// A dag whose indices outlive removals.
@@ -118,7 +138,7 @@ fn scratch_for<Ix: IndexType>(alloc: Global, slots: usize) -> Result<Scratch<Ix>
 
 impl<N, E, Ix: IndexType, S> Model for Acyclic<N, E, Ix, S>
 where
-    S: Store<Ix, NodeWeight = N, EdgeWeight = E>,
+    S: EdgeSource<Ix, NodeWeight = N, EdgeWeight = E>,
 {
     ghost use Rattle.daggy_base.specs.State.{State};
 
@@ -129,33 +149,8 @@ where
 
 impl<N: Drop, E: Drop, Ix: IndexType, S> Acyclic<N, E, Ix, S>
 where
-    S: Store<Ix, NodeWeight = N, EdgeWeight = E>,
+    S: ReadStore<Ix, NodeWeight = N, EdgeWeight = E>,
 {
-    /// An empty dag. Does not allocate.
-    pub fn new(alloc: Global) -> Self
-        ensures { result ≡ record { graph = empty; looks = 0 } }
-    {
-        Acyclic {
-            guarded: Guarded::new(alloc),
-            node_weight: PhantomData,
-            edge_weight: PhantomData,
-        }
-    }
-
-    // A dag of a store, an order of its nodes, and scratch that fits searches of its graph.
-    fn from_parts(store: S, order: Order<Ix>, scratch: Scratch<Ix>) -> Self
-        requires { IsOrderOf (S.graph store) order
-            × (node_bound (S.graph store) ≤ scratch.nodes) }
-        ensures value { result ≡ record { graph = S.graph store; looks = S.looks store } }
-        ensures acyclic { IsAcyclic result.graph }
-    {
-        Acyclic {
-            guarded: Guarded::from_parts(store, order, scratch),
-            node_weight: PhantomData,
-            edge_weight: PhantomData,
-        }
-    }
-
     // An order of its nodes, and scratch that fits searches of any graph with as many slots of nodes:
     // what a copy of it, or of a part of it, has beside its store.
     fn copied_parts(&self) -> Result<(Order<Ix>, Scratch<Ix>), AllocError>
@@ -254,252 +249,6 @@ where
         store.find_edge(a, b)
     }
 
-    /// Adds a node without edges, and returns its index.
-    ///
-    /// # Errors
-    ///
-    /// Returns `NodeError::Memory` with the weight if an allocation fails; the dag is unchanged.
-    #[inline]
-    pub fn add_node(&mut self, weight: N) -> Result<NodeIndex<Ix>, NodeError<N>>
-        requires { node_count_of self.old.graph < Ix.greatest }
-        ensures added { IfOk result (λ n. (Ix.number n ≡ next_node self.old.graph)
-            × (self.new.graph ≡ with_node self.old.graph weight)) }
-        ensures refusal { IfErr result (λ e. e ≡ NodeMemory weight) }
-        ensures unchanged { OnErr result (self.new.graph ≡ self.old.graph) }
-        ensures acyclic { IsAcyclic self.new.graph }
-        ensures counted { self.new.looks ≡ self.old.looks }
-    {
-        self.guarded.add_node(weight)
-    }
-
-    /// Adds an edge from `a` to `b`, and returns its index.
-    ///
-    /// # Errors
-    ///
-    /// Returns `EdgeError::WouldCycle` if `b` already reaches `a`, so that the edge would close a
-    /// cycle; this is decided first, and does not allocate. Returns `EdgeError::Memory` if an
-    /// allocation fails. Each error holds the weight, and the dag is unchanged.
-    ///
-    /// # Complexity
-    ///
-    /// O(1) if `a` precedes `b` in the dag's order, or if `a` has fewer than four parents and all
-    /// of them precede `b`, as when `a` was just added. Otherwise a search from `b` that stays
-    /// before `a` in the order.
-    ///
-    /// # Examples
-    ///
-    /// ```
-    /// let mut dag: Dag<&'static str, u32> = Dag::new(rt.alloc());
-    /// let sow = dag.add_node("sow")?;
-    /// let reap = dag.add_node("reap")?;
-    /// let days = dag.add_edge(sow, reap, 90)?;
-    /// assert!(rt; dag.edge_weight(days) == Some(&90));
-    /// // The edge would close a cycle; the error returns its weight.
-    /// assert!(rt; dag.add_edge(reap, sow, 5) == Err(EdgeError::WouldCycle(WouldCycle(5))));
-    /// ```
-    #[inline]
-    pub fn add_edge(
-        &mut self,
-        a: NodeIndex<Ix>,
-        b: NodeIndex<Ix>,
-        weight: E,
-    ) -> Result<EdgeIndex<Ix>, EdgeError<E>>
-        requires parent { HasNode self.old.graph (Ix.number a) }
-        requires child { HasNode self.old.graph (Ix.number b) }
-        requires index_left { edge_count_of self.old.graph < Ix.greatest }
-        ensures cycle { (result ≡ Err (ByCycle (record { 0 = weight })))
-            ↔ Reaches self.old.graph (Ix.number b) (Ix.number a) }
-        ensures refusal { IfErr result (λ e.
-            (e ≡ ByCycle (record { 0 = weight })) ⊎ (e ≡ EdgeMemory weight)) }
-        ensures added { IfOk result (λ e. (Ix.number e ≡ next_edge self.old.graph)
-            × (self.new.graph ≡ with_edge self.old.graph (Ix.number a) (Ix.number b) weight)) }
-        ensures first { IfOk result (λ e.
-            ComesFirst self.old.graph self.new.graph (Ix.number a) (Ix.number b) (Ix.number e)) }
-        ensures unchanged { OnErr result (self.new.graph ≡ self.old.graph) }
-        ensures acyclic { IsAcyclic self.new.graph }
-        ensures looked { self.old.looks ≤ self.new.looks }
-        ensures counted { self.new.looks ≤ self.old.looks + edge_count_of self.old.graph }
-        ensures ready { Reaches self.old.graph (Ix.number a) (Ix.number b)
-            → self.new.looks ≡ self.old.looks }
-    {
-        self.guarded.add_edge(a, b, weight)
-    }
-
-    /// Replaces the weight of the edge that [`find_edge`](Acyclic::find_edge) returns for `a` and
-    /// `b`, or adds an edge as [`add_edge`](Acyclic::add_edge) does if there is none. Returns the
-    /// index of that edge.
-    ///
-    /// If there is such an edge the call cannot fail, and the old weight is dropped.
-    ///
-    /// # Examples
-    ///
-    /// ```
-    /// let mut dag: Dag<&'static str, u32> = Dag::new(rt.alloc());
-    /// let sow = dag.add_node("sow")?;
-    /// let (days, reap) = dag.add_child(sow, 90, "reap")?;
-    /// assert!(rt; dag.update_edge(sow, reap, 80) == Ok(days));
-    /// assert!(rt; dag.edge_weight(days) == Some(&80));
-    /// ```
-    pub fn update_edge(
-        &mut self,
-        a: NodeIndex<Ix>,
-        b: NodeIndex<Ix>,
-        weight: E,
-    ) -> Result<EdgeIndex<Ix>, EdgeError<E>>
-        requires parent { HasNode self.old.graph (Ix.number a) }
-        requires child { HasNode self.old.graph (Ix.number b) }
-        requires index_left { edge_between self.old.graph (Ix.number a) (Ix.number b) ≡ None
-            → edge_count_of self.old.graph < Ix.greatest }
-        ensures replaced { IfSome (edge_between self.old.graph (Ix.number a) (Ix.number b)) (λ e.
-            IsOkAnd result (λ updated. Ix.number updated ≡ e)
-            × (self.new ≡ with_graph self.old (with_edge_weight self.old.graph e weight))) }
-        ensures cycle { (result ≡ Err (ByCycle (record { 0 = weight })))
-            ↔ Reaches self.old.graph (Ix.number b) (Ix.number a) }
-        ensures refusal { IfErr result (λ e.
-            (e ≡ ByCycle (record { 0 = weight })) ⊎ (e ≡ EdgeMemory weight)) }
-        ensures added { edge_between self.old.graph (Ix.number a) (Ix.number b) ≡ None
-            → IfOk result (λ e.
-            (Ix.number e ≡ next_edge self.old.graph)
-            × (self.new.graph ≡ with_edge self.old.graph (Ix.number a) (Ix.number b) weight)) }
-        ensures unchanged { OnErr result (self.new.graph ≡ self.old.graph) }
-        ensures acyclic { IsAcyclic self.new.graph }
-        ensures looked { self.old.looks ≤ self.new.looks }
-        ensures counted { self.new.looks ≤ self.old.looks + edge_count_of self.old.graph }
-        ensures ready { Reaches self.old.graph (Ix.number a) (Ix.number b)
-            → self.new.looks ≡ self.old.looks }
-    {
-        self.guarded.update_edge(a, b, weight)
-    }
-
-    /// Adds a node and an edge from `parent` to it, or neither. Returns both indices.
-    ///
-    /// It needs no search, so it costs less than `add_node` followed by `add_edge`.
-    ///
-    /// # Errors
-    ///
-    /// Returns `ChildError::Memory` with both weights if an allocation fails; the dag is unchanged.
-    ///
-    /// # Examples
-    ///
-    /// ```
-    /// let mut dag: Dag<&'static str, u32> = Dag::new(rt.alloc());
-    /// let sow = dag.add_node("sow")?;
-    /// let (days, reap) = dag.add_child(sow, 90, "reap")?;
-    /// assert!(rt; dag.edge_endpoints(days) == Some((sow, reap)));
-    /// ```
-    #[inline]
-    pub fn add_child(
-        &mut self,
-        parent: NodeIndex<Ix>,
-        edge: E,
-        node: N,
-    ) -> Result<(EdgeIndex<Ix>, NodeIndex<Ix>), ChildError<N, E>>
-        requires parent { HasNode self.old.graph (Ix.number parent) }
-        requires edge_index_left { edge_count_of self.old.graph < Ix.greatest }
-        requires node_index_left { node_count_of self.old.graph < Ix.greatest }
-        ensures added { IfOk result (λ r. (Ix.number r.0 ≡ next_edge self.old.graph)
-            × (Ix.number r.1 ≡ next_node self.old.graph)
-            × (self.new ≡ with_graph self.old
-            (with_neighbor Outgoing self.old.graph (Ix.number parent) edge node))) }
-        ensures refusal { IfErr result (λ e. e ≡ ChildMemory edge node) }
-        ensures unchanged { OnErr result (self.new ≡ self.old) }
-        ensures acyclic { IsAcyclic self.new.graph }
-    {
-        self.guarded
-            .add_neighbor(parent, Direction::Outgoing, edge, node)
-    }
-
-    /// Adds a node and an edge from it to `child`, or neither. Returns both indices.
-    ///
-    /// It needs no search, so it costs less than `add_node` followed by `add_edge`.
-    ///
-    /// # Errors
-    ///
-    /// Returns `ChildError::Memory` with both weights if an allocation fails; the dag is unchanged.
-    #[inline]
-    pub fn add_parent(
-        &mut self,
-        child: NodeIndex<Ix>,
-        edge: E,
-        node: N,
-    ) -> Result<(EdgeIndex<Ix>, NodeIndex<Ix>), ChildError<N, E>>
-        requires child { HasNode self.old.graph (Ix.number child) }
-        requires edge_index_left { edge_count_of self.old.graph < Ix.greatest }
-        requires node_index_left { node_count_of self.old.graph < Ix.greatest }
-        ensures added { IfOk result (λ r. (Ix.number r.0 ≡ next_edge self.old.graph)
-            × (Ix.number r.1 ≡ next_node self.old.graph)
-            × (self.new ≡ with_graph self.old
-            (with_neighbor Incoming self.old.graph (Ix.number child) edge node))) }
-        ensures refusal { IfErr result (λ e. e ≡ ChildMemory edge node) }
-        ensures unchanged { OnErr result (self.new ≡ self.old) }
-        ensures acyclic { IsAcyclic self.new.graph }
-    {
-        self.guarded
-            .add_neighbor(child, Direction::Incoming, edge, node)
-    }
-
-    /// Removes an edge and returns its weight, or `None` if there is no such edge.
-    ///
-    /// In a [`Dag`] the edge with the last index gets its index. In a [`StableDag`] no other index
-    /// changes, and the next edge that is added gets this one.
-    pub fn remove_edge(&mut self, e: EdgeIndex<Ix>) -> Option<E>
-        ensures value { result ≡ edge_weight_at self.old.graph (Ix.number e) }
-        ensures removed { OnSome result
-            (self.new ≡ with_graph self.old (without_edge S.KIND self.old.graph (Ix.number e))) }
-        ensures missing { IfNone result (self.new ≡ self.old) }
-        ensures keeps { S.KIND ≡ Stable → KeepsIndices self.old.graph self.new.graph }
-        ensures acyclic { IsAcyclic self.new.graph }
-    {
-        self.guarded.remove_edge(e)
-    }
-
-    /// Removes a node with its edges and returns its weight, or `None` if there is no such node.
-    ///
-    /// The edges go one by one, those to its children first, each as
-    /// [`remove_edge`](Acyclic::remove_edge) removes it. In a [`Dag`] the node with the last index
-    /// then gets the index of this node. In a [`StableDag`] no other index changes, and the next
-    /// node that is added gets this one.
-    ///
-    /// # Examples
-    ///
-    /// ```
-    /// let mut dag: Dag<&'static str, u32> = Dag::new(rt.alloc());
-    /// let sow = dag.add_node("sow")?;
-    /// let (days, reap) = dag.add_child(sow, 90, "reap")?;
-    /// assert!(rt; dag.remove_node(sow) == Some("sow"));
-    /// assert!(rt; dag.edge_weight(days).is_none());
-    /// // The last node has its index now.
-    /// assert!(rt; dag.node_weight(sow) == Some(&"reap"));
-    /// assert!(rt; !dag.contains_node(reap));
-    /// ```
-    pub fn remove_node(&mut self, n: NodeIndex<Ix>) -> Option<N>
-        ensures value { result ≡ weight_at self.old.graph (Ix.number n) }
-        ensures removed { OnSome result
-            (self.new ≡ with_graph self.old (without_node S.KIND self.old.graph (Ix.number n))) }
-        ensures missing { IfNone result (self.new ≡ self.old) }
-        ensures keeps { S.KIND ≡ Stable → KeepsIndices self.old.graph self.new.graph }
-        ensures acyclic { IsAcyclic self.new.graph }
-    {
-        self.guarded.remove_node(n)
-    }
-
-    /// Removes everything, vacant slots included; indices start from 0 again.
-    pub fn clear(&mut self)
-        ensures cleared { self.new ≡ with_graph self.old empty }
-        ensures acyclic { IsAcyclic self.new.graph }
-    {
-        self.guarded.store.clear();
-        self.guarded.order.clear();
-    }
-
-    /// Removes all edges and the slots of edges, and keeps the nodes and the vacant slots of nodes.
-    pub fn clear_edges(&mut self)
-        ensures cleared { self.new ≡ with_graph self.old (without_all_edges self.old.graph) }
-        ensures acyclic { IsAcyclic self.new.graph }
-    {
-        self.guarded.store.clear_edges();
-    }
-
     /// A walker over the children of a node, newest edge first. Empty if the node does not exist.
     ///
     /// # Examples
@@ -546,5 +295,354 @@ where
             node_weight: PhantomData,
             edge_weight: PhantomData,
         }
+    }
+}
+
+impl<N: Drop, E: Drop, Ix: IndexType, S> Acyclic<N, E, Ix, S>
+where
+    S: Store<Ix, NodeWeight = N, EdgeWeight = E>,
+{
+    /// An empty dag. Does not allocate.
+    pub fn new(alloc: Global) -> Self
+        ensures { result ≡ record { graph = empty; looks = 0 } }
+    {
+        Acyclic {
+            guarded: Guarded::new(alloc),
+            node_weight: PhantomData,
+            edge_weight: PhantomData,
+        }
+    }
+
+    // A dag of a store, an order of its nodes, and scratch that fits searches of its graph.
+    fn from_parts(store: S, order: Order<Ix>, scratch: Scratch<Ix>) -> Self
+        requires { IsOrderOf (S.graph store) order
+            × (node_bound (S.graph store) ≤ scratch.nodes) }
+        ensures value { result ≡ record { graph = S.graph store; looks = S.looks store } }
+        ensures acyclic { IsAcyclic result.graph }
+    {
+        Acyclic {
+            guarded: Guarded::from_parts(store, order, scratch),
+            node_weight: PhantomData,
+            edge_weight: PhantomData,
+        }
+    }
+
+    /// Adds a node without edges, and returns its index.
+    ///
+    /// # Requires
+    ///
+    /// - The index type has an index left for one more node. Test: `can_add_node()`.
+    ///
+    /// # Errors
+    ///
+    /// Returns `NodeError::Memory` with the weight if an allocation fails; the dag is unchanged.
+    ///
+    /// # Complexity
+    ///
+    /// Amortized O(1).
+    #[inline]
+    pub fn add_node(&mut self, weight: N) -> Result<NodeIndex<Ix>, NodeError<N>>
+        requires { node_count_of self.old.graph < Ix.greatest }
+        ensures added { IfOk result (λ n. (Ix.number n ≡ next_node self.old.graph)
+            × (self.new.graph ≡ with_node self.old.graph weight)) }
+        ensures refusal { IfErr result (λ e. e ≡ NodeMemory weight) }
+        ensures unchanged { OnErr result (self.new.graph ≡ self.old.graph) }
+        ensures acyclic { IsAcyclic self.new.graph }
+        ensures counted { self.new.looks ≡ self.old.looks }
+    {
+        self.guarded.add_node(weight)
+    }
+
+    /// Adds an edge from `a` to `b`, and returns its index.
+    ///
+    /// # Requires
+    ///
+    /// - `parent`: `a` is a node of the dag. Test: `contains_node(a)`.
+    /// - `child`: `b` is a node of the dag. Test: `contains_node(b)`.
+    /// - `index_left`: The index type has an index left for one more edge. Test: `can_add_edge()`.
+    ///
+    /// # Errors
+    ///
+    /// Returns `EdgeError::WouldCycle` if `b` already reaches `a`, so that the edge would close a
+    /// cycle; this is decided first, and does not allocate. Returns `EdgeError::Memory` if an
+    /// allocation fails. Each error holds the weight, and the dag is unchanged.
+    ///
+    /// # Complexity
+    ///
+    /// O(1) if `a` precedes `b` in the dag's order, or if `a` has fewer than four parents and all
+    /// of them precede `b`, as when `a` was just added. Otherwise a search of the nodes reachable
+    /// from `b` that precede `a` in the order.
+    ///
+    /// # Examples
+    ///
+    /// ```
+    /// let mut dag: Dag<&'static str, u32> = Dag::new(rt.alloc());
+    /// let sow = dag.add_node("sow")?;
+    /// let reap = dag.add_node("reap")?;
+    /// let days = dag.add_edge(sow, reap, 90)?;
+    /// assert!(rt; dag.edge_weight(days) == Some(&90));
+    /// // The edge would close a cycle; the error returns its weight.
+    /// assert!(rt; dag.add_edge(reap, sow, 5) == Err(EdgeError::WouldCycle(WouldCycle(5))));
+    /// ```
+    #[inline]
+    pub fn add_edge(
+        &mut self,
+        a: NodeIndex<Ix>,
+        b: NodeIndex<Ix>,
+        weight: E,
+    ) -> Result<EdgeIndex<Ix>, EdgeError<E>>
+        requires parent { HasNode self.old.graph (Ix.number a) }
+        requires child { HasNode self.old.graph (Ix.number b) }
+        requires index_left { edge_count_of self.old.graph < Ix.greatest }
+        ensures cycle { (result ≡ Err (ByCycle (record { 0 = weight })))
+            ↔ Reaches self.old.graph (Ix.number b) (Ix.number a) }
+        ensures refusal { IfErr result (λ e.
+            (e ≡ ByCycle (record { 0 = weight })) ⊎ (e ≡ EdgeMemory weight)) }
+        ensures added { IfOk result (λ e. (Ix.number e ≡ next_edge self.old.graph)
+            × (self.new.graph ≡ with_edge self.old.graph (Ix.number a) (Ix.number b) weight)) }
+        ensures first { IfOk result (λ e.
+            ComesFirst self.old.graph self.new.graph (Ix.number a) (Ix.number b) (Ix.number e)) }
+        ensures unchanged { OnErr result (self.new.graph ≡ self.old.graph) }
+        ensures acyclic { IsAcyclic self.new.graph }
+        ensures looked { self.old.looks ≤ self.new.looks }
+        ensures counted { self.new.looks ≤ self.old.looks + edge_count_of self.old.graph }
+        ensures ready { Reaches self.old.graph (Ix.number a) (Ix.number b)
+            → self.new.looks ≡ self.old.looks }
+    {
+        self.guarded.add_edge(a, b, weight)
+    }
+
+    /// Replaces the weight of the edge that [`find_edge`](Acyclic::find_edge) returns for `a` and
+    /// `b`, or adds an edge as [`add_edge`](Acyclic::add_edge) does if there is none. Returns the
+    /// index of that edge.
+    ///
+    /// If there is such an edge the call cannot fail, and the old weight is dropped.
+    ///
+    /// # Requires
+    ///
+    /// - `parent`: `a` is a node of the dag. Test: `contains_node(a)`.
+    /// - `child`: `b` is a node of the dag. Test: `contains_node(b)`.
+    /// - `index_left`: If no edge leads from `a` to `b` yet, the index type has an index left for
+    ///   one more edge. Test: `can_add_edge()`.
+    ///
+    /// # Errors
+    ///
+    /// Returns the errors of [`add_edge`](Acyclic::add_edge), and only if no edge leads from `a` to
+    /// `b`. Each error holds the weight, and the dag is unchanged.
+    ///
+    /// # Complexity
+    ///
+    /// The cost of [`find_edge`](Acyclic::find_edge), plus the cost of
+    /// [`add_edge`](Acyclic::add_edge) if there is no such edge.
+    ///
+    /// # Examples
+    ///
+    /// ```
+    /// let mut dag: Dag<&'static str, u32> = Dag::new(rt.alloc());
+    /// let sow = dag.add_node("sow")?;
+    /// let (days, reap) = dag.add_child(sow, 90, "reap")?;
+    /// assert!(rt; dag.update_edge(sow, reap, 80) == Ok(days));
+    /// assert!(rt; dag.edge_weight(days) == Some(&80));
+    /// ```
+    pub fn update_edge(
+        &mut self,
+        a: NodeIndex<Ix>,
+        b: NodeIndex<Ix>,
+        weight: E,
+    ) -> Result<EdgeIndex<Ix>, EdgeError<E>>
+        requires parent { HasNode self.old.graph (Ix.number a) }
+        requires child { HasNode self.old.graph (Ix.number b) }
+        requires index_left { edge_between self.old.graph (Ix.number a) (Ix.number b) ≡ None
+            → edge_count_of self.old.graph < Ix.greatest }
+        ensures replaced { IfSome (edge_between self.old.graph (Ix.number a) (Ix.number b)) (λ e.
+            IsOkAnd result (λ updated. Ix.number updated ≡ e)
+            × (self.new ≡ with_graph self.old (with_edge_weight self.old.graph e weight))) }
+        ensures cycle { (result ≡ Err (ByCycle (record { 0 = weight })))
+            ↔ Reaches self.old.graph (Ix.number b) (Ix.number a) }
+        ensures refusal { IfErr result (λ e.
+            (e ≡ ByCycle (record { 0 = weight })) ⊎ (e ≡ EdgeMemory weight)) }
+        ensures added { edge_between self.old.graph (Ix.number a) (Ix.number b) ≡ None
+            → IfOk result (λ e.
+            (Ix.number e ≡ next_edge self.old.graph)
+            × (self.new.graph ≡ with_edge self.old.graph (Ix.number a) (Ix.number b) weight)) }
+        ensures unchanged { OnErr result (self.new.graph ≡ self.old.graph) }
+        ensures acyclic { IsAcyclic self.new.graph }
+        ensures looked { self.old.looks ≤ self.new.looks }
+        ensures counted { self.new.looks ≤ self.old.looks + edge_count_of self.old.graph }
+        ensures ready { Reaches self.old.graph (Ix.number a) (Ix.number b)
+            → self.new.looks ≡ self.old.looks }
+    {
+        self.guarded.update_edge(a, b, weight)
+    }
+
+    /// Adds a node and an edge from `parent` to it, or neither. Returns both indices.
+    ///
+    /// It needs no search, so it costs less than `add_node` followed by `add_edge`.
+    ///
+    /// # Requires
+    ///
+    /// - `parent`: `parent` is a node of the dag. Test: `contains_node(parent)`.
+    /// - `edge_index_left`: The index type has an index left for one more edge. Test:
+    ///   `can_add_edge()`.
+    /// - `node_index_left`: The index type has an index left for one more node. Test:
+    ///   `can_add_node()`.
+    ///
+    /// # Errors
+    ///
+    /// Returns `ChildError::Memory` with both weights if an allocation fails; the dag is unchanged.
+    ///
+    /// # Complexity
+    ///
+    /// Amortized O(1).
+    ///
+    /// # Examples
+    ///
+    /// ```
+    /// let mut dag: Dag<&'static str, u32> = Dag::new(rt.alloc());
+    /// let sow = dag.add_node("sow")?;
+    /// let (days, reap) = dag.add_child(sow, 90, "reap")?;
+    /// assert!(rt; dag.edge_endpoints(days) == Some((sow, reap)));
+    /// ```
+    #[inline]
+    pub fn add_child(
+        &mut self,
+        parent: NodeIndex<Ix>,
+        edge: E,
+        node: N,
+    ) -> Result<(EdgeIndex<Ix>, NodeIndex<Ix>), ChildError<N, E>>
+        requires parent { HasNode self.old.graph (Ix.number parent) }
+        requires edge_index_left { edge_count_of self.old.graph < Ix.greatest }
+        requires node_index_left { node_count_of self.old.graph < Ix.greatest }
+        ensures added { IfOk result (λ r. (Ix.number r.0 ≡ next_edge self.old.graph)
+            × (Ix.number r.1 ≡ next_node self.old.graph)
+            × (self.new ≡ with_graph self.old
+            (with_neighbor Outgoing self.old.graph (Ix.number parent) edge node))) }
+        ensures refusal { IfErr result (λ e. e ≡ ChildMemory edge node) }
+        ensures unchanged { OnErr result (self.new ≡ self.old) }
+        ensures acyclic { IsAcyclic self.new.graph }
+    {
+        self.guarded
+            .add_neighbor(parent, Direction::Outgoing, edge, node)
+    }
+
+    /// Adds a node and an edge from it to `child`, or neither. Returns both indices.
+    ///
+    /// It needs no search, so it costs less than `add_node` followed by `add_edge`.
+    ///
+    /// # Requires
+    ///
+    /// - `child`: `child` is a node of the dag. Test: `contains_node(child)`.
+    /// - `edge_index_left`: The index type has an index left for one more edge. Test:
+    ///   `can_add_edge()`.
+    /// - `node_index_left`: The index type has an index left for one more node. Test:
+    ///   `can_add_node()`.
+    ///
+    /// # Errors
+    ///
+    /// Returns `ChildError::Memory` with both weights if an allocation fails; the dag is unchanged.
+    ///
+    /// # Complexity
+    ///
+    /// Amortized O(1).
+    #[inline]
+    pub fn add_parent(
+        &mut self,
+        child: NodeIndex<Ix>,
+        edge: E,
+        node: N,
+    ) -> Result<(EdgeIndex<Ix>, NodeIndex<Ix>), ChildError<N, E>>
+        requires child { HasNode self.old.graph (Ix.number child) }
+        requires edge_index_left { edge_count_of self.old.graph < Ix.greatest }
+        requires node_index_left { node_count_of self.old.graph < Ix.greatest }
+        ensures added { IfOk result (λ r. (Ix.number r.0 ≡ next_edge self.old.graph)
+            × (Ix.number r.1 ≡ next_node self.old.graph)
+            × (self.new ≡ with_graph self.old
+            (with_neighbor Incoming self.old.graph (Ix.number child) edge node))) }
+        ensures refusal { IfErr result (λ e. e ≡ ChildMemory edge node) }
+        ensures unchanged { OnErr result (self.new ≡ self.old) }
+        ensures acyclic { IsAcyclic self.new.graph }
+    {
+        self.guarded
+            .add_neighbor(child, Direction::Incoming, edge, node)
+    }
+
+    /// Removes an edge and returns its weight, or `None` if there is no such edge.
+    ///
+    /// In a [`Dag`] the edge with the last index gets its index. In a [`StableDag`] no other index
+    /// changes, and the next edge that is added gets this one.
+    ///
+    /// # Complexity
+    ///
+    /// In a [`StableDag`] O(edges before it in its two lists). In a [`Dag`] O(edges in the lists of
+    /// this edge and of the one with the last index).
+    pub fn remove_edge(&mut self, e: EdgeIndex<Ix>) -> Option<E>
+        ensures value { result ≡ edge_weight_at self.old.graph (Ix.number e) }
+        ensures removed { OnSome result
+            (self.new ≡ with_graph self.old (without_edge S.KIND self.old.graph (Ix.number e))) }
+        ensures missing { IfNone result (self.new ≡ self.old) }
+        ensures keeps { S.KIND ≡ Stable → KeepsIndices self.old.graph self.new.graph }
+        ensures acyclic { IsAcyclic self.new.graph }
+    {
+        self.guarded.remove_edge(e)
+    }
+
+    /// Removes a node with its edges and returns its weight, or `None` if there is no such node.
+    ///
+    /// The edges are removed one by one, as by [`remove_edge`](Acyclic::remove_edge), first the
+    /// edges to its children. In a [`Dag`] the node with the last index then gets the index of this
+    /// node. In a [`StableDag`] no other index changes, and the next node that is added gets this
+    /// one.
+    ///
+    /// # Complexity
+    ///
+    /// The sum of the costs of removing its edges by [`remove_edge`](Acyclic::remove_edge). In a
+    /// [`Dag`], plus O(edges of the node with the last index), which is moved.
+    ///
+    /// # Examples
+    ///
+    /// ```
+    /// let mut dag: Dag<&'static str, u32> = Dag::new(rt.alloc());
+    /// let sow = dag.add_node("sow")?;
+    /// let (days, reap) = dag.add_child(sow, 90, "reap")?;
+    /// assert!(rt; dag.remove_node(sow) == Some("sow"));
+    /// assert!(rt; dag.edge_weight(days).is_none());
+    /// // The last node has its index now.
+    /// assert!(rt; dag.node_weight(sow) == Some(&"reap"));
+    /// assert!(rt; !dag.contains_node(reap));
+    /// ```
+    pub fn remove_node(&mut self, n: NodeIndex<Ix>) -> Option<N>
+        ensures value { result ≡ weight_at self.old.graph (Ix.number n) }
+        ensures removed { OnSome result
+            (self.new ≡ with_graph self.old (without_node S.KIND self.old.graph (Ix.number n))) }
+        ensures missing { IfNone result (self.new ≡ self.old) }
+        ensures keeps { S.KIND ≡ Stable → KeepsIndices self.old.graph self.new.graph }
+        ensures acyclic { IsAcyclic self.new.graph }
+    {
+        self.guarded.remove_node(n)
+    }
+
+    /// Removes everything, vacant slots included; indices start from 0 again.
+    ///
+    /// # Complexity
+    ///
+    /// O(slots).
+    pub fn clear(&mut self)
+        ensures cleared { self.new ≡ with_graph self.old empty }
+        ensures acyclic { IsAcyclic self.new.graph }
+    {
+        self.guarded.store.clear();
+        self.guarded.order.clear();
+    }
+
+    /// Removes all edges and the slots of edges, and keeps the nodes and the vacant slots of nodes.
+    ///
+    /// # Complexity
+    ///
+    /// O(slots).
+    pub fn clear_edges(&mut self)
+        ensures cleared { self.new ≡ with_graph self.old (without_all_edges self.old.graph) }
+        ensures acyclic { IsAcyclic self.new.graph }
+    {
+        self.guarded.store.clear_edges();
     }
 }

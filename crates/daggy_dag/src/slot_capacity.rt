@@ -11,7 +11,19 @@ use daggy_stable::stable_graph::StableDiGraph;
 use std::alloc::{AllocError, Global};
 use std::marker::Model;
 
-/// Preallocated memory for an infallible conversion from a compact to a stable graph.
+/// Memory for a stable graph, allocated in advance, so that the conversion from a compact graph
+/// cannot fail.
+///
+/// # Examples
+///
+/// ```
+/// let mut graph: DiGraph<&'static str, ()> = DiGraph::new(rt.alloc());
+/// let sow = graph.add_node("sow")?;
+/// let room = Room::new(rt.alloc(), graph.node_count(), graph.edge_count())?;
+/// // From here on nothing can fail.
+/// let stable = room.fill(graph);
+/// assert!(rt; stable.node_weight(sow) == Some(&"sow"));
+/// ```
 #[derive(Drop)]
 pub struct Room<N, E, Ix: IndexType = DefaultIx> {
     nodes: Vec<Node<Option<N>, Ix>>,
@@ -36,6 +48,10 @@ impl<N, E, Ix: IndexType> Room<N, E, Ix> {
     ///
     /// Returns `AllocError` if an allocation fails, or if the capacity exceeds what a machine can
     /// address.
+    ///
+    /// # Complexity
+    ///
+    /// O(1), plus the allocations.
     pub fn new(alloc: Global, nodes: usize, edges: usize) -> Result<Self, AllocError>
     where
         N: Drop,
@@ -49,6 +65,11 @@ impl<N, E, Ix: IndexType> Room<N, E, Ix> {
     }
 
     /// The stable graph with the same indices and lists, and with no vacant slot.
+    ///
+    /// # Requires
+    ///
+    /// - `nodes`: `graph` has at most as many nodes as the memory was allocated for.
+    /// - `edges`: `graph` has at most as many edges as the memory was allocated for.
     ///
     /// # Complexity
     ///

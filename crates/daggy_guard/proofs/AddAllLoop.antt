@@ -1,11 +1,11 @@
 -- The loop of `add_all`: the edges that were given so far are there.
-use Rattle.std.proofs.Common.{◌≡◌, ℕ, suc, ◌+◌, ◌<◌, ◌≤◌, ◌⊎◌, inl, inr, Err, add-one, List, [], ◌∷◌}
+use Rattle.std.proofs.Common.{◌≡◌, ℕ, suc, ◌+◌, ◌<◌, ◌≤◌, ◌⊎◌, inl, inr, Err, add-one, max, List, [], ◌∷◌}
 use Rattle.std.proofs.Common.{◌++◌, map, length, take, reverse, Option, Vec, refl, sym, ap, subst, ◌∙◌, arith}
 use Rattle.std.proofs.lemmas.Bool.{cases_lt}
-use Rattle.std.proofs.lemmas.List.{length-append, length_push, length-map, length-reverse, map-append, take-append-le}
+use Rattle.std.proofs.lemmas.List.{length-append, length-map, length-reverse, map-append, take-append-le}
 use Rattle.std.specs.Iterator.{Yields, Drains}
 use Rattle.std.specs.Prelude.{◌↔◌, Contains}
-use Rattle.daggy_base.specs.Graph.{Graph, HasNode, node_bound, edge_count}
+use Rattle.daggy_base.specs.Graph.{Graph, HasNode, node_bound, node_count, edge_count}
 use Rattle.daggy_base.specs.Path.{IsAcyclic}
 use Rattle.daggy_base.specs.Adding.{with_edge, next_edge}
 use Rattle.daggy_base.specs.declared.kind.Kind.{Kind}
@@ -17,17 +17,16 @@ use Rattle.daggy_order.proofs.OrderLaws.{order_with_edge}
 use Rattle.daggy_guard.specs.EdgeBatch.{with_edges, new_edges, HasEnds, IsFaultless, IsAdded}
 use Rattle.daggy_base.specs.Adding.{NewEdge, by_numbers}
 use Rattle.daggy_guard.specs.EdgeBatch.{IsFirstFault, ClosesCycle, IsRefused, LacksEnd, LacksIndex, LacksMemory}
-use Rattle.daggy_guard.specs.EdgeBatch.{weights_back, ordering_looks, most_looks}
-use Rattle.daggy_guard.specs.BatchProgress.{IsBatchSoFar, IsFault, IsKept, IsStep, BatchOrder}
-use Rattle.daggy_guard.specs.BatchProgress.{item_looks, looks_left, refusal}
+use Rattle.daggy_guard.specs.EdgeBatch.{weights_back, batch_looks, most_looks}
+use Rattle.daggy_guard.specs.BatchProgress.{IsBatchSoFar, IsFault, IsKept, IsStep, IsWithin, BatchOrder, refusal}
 use Rattle.daggy_guard.specs.declared.edge_batch.Fault.{Fault}
 use Rattle.daggy_guard.specs.declared.edge_batch.Fault.TheVariants.{BadEndpoint, Full, Memory}
 use Rattle.daggy_guard.specs.declared.edge_batch.Standing.{Standing}
-use Rattle.daggy_guard.specs.declared.edge_batch.Standing.TheVariants.{Left, Closed}
+use Rattle.daggy_guard.specs.declared.edge_batch.Standing.TheVariants.{Closed}
 use Rattle.daggy_guard.proofs.AcceptedEdges.{accepted_if_acyclic, acyclic_if_accepted, order_before_edges}
 use Rattle.daggy_guard.proofs.AcceptedEdges.{count_with_edge, count_with_edges}
 use Rattle.daggy_guard.proofs.OrderAfterChange.{order_kept}
-use Rattle.daggy_guard.proofs.StandingAfterEdge.{stepped}
+use Rattle.daggy_guard.proofs.StandingAfterEdge.{stepped, within_most, within_more}
 
 -- one edge more
 edges_more : {N E : Type 0} (g : Graph N E) (xs : List (NewEdge E)) (x : NewEdge E)
@@ -117,7 +116,11 @@ pub record Batch (I N E : Type 0) : Type 0 where
 
 -- the order beside it
 abbrev pub batch_order : {I N E : Type 0} → Batch I N E → BatchOrder
-batch_order batch = record { standing = batch.standing; order = batch.order; looks = batch.looks }
+batch_order batch = record { standing = batch.standing; order = batch.order }
+
+-- how many edges the searches may read
+abbrev pub budget : {N E : Type 0} → Start N E → ℕ
+budget before = max (node_count before.graph) (edge_count before.graph)
 
 -- the edges of the items that were given are all there, none of them is at fault, and the order is one of the graph
 -- before them, and of the graph with them as long as it is kept
@@ -129,11 +132,9 @@ pub record Adding {I N E : Type 0} (number : I → ℕ) (limit : ℕ) (kind : Ki
   pub empty : batch.weights ≡ []
   pub spare : batch.weights_held + batch.edges_held ≤ batch.capacity
   pub fits : node_bound batch.graph ≤ before.room
-  pub few_looks : batch.looks + looks_left (edge_count batch.graph) batch.standing
-      ≤ before.looks + ordering_looks (edge_count before.graph) (length batch.given)
+  pub few_looks : IsWithin (budget before) (edge_count batch.graph) before.looks batch.looks batch.standing
   pub ordered_before : IsOrderOf before.graph batch.order
   pub ordered_now : IsKept batch.standing → IsOrderOf batch.graph batch.order
-  pub left : batch.standing ≡ Left → 0 < length batch.given
   pub closed : batch.standing ≡ Closed → IsAcyclic batch.graph → ⊥
 
 module _ {I N E : Type 0} {number : I → ℕ} {limit : ℕ} {kind : Kind} {before : Start N E} {batch : Batch I N E}
@@ -182,9 +183,8 @@ module _ {I N E : Type 0} {number : I → ℕ} {limit : ℕ} {kind : Kind} {befo
     pub same_slots : after.slots ≡ batch.slots
     pub same_weights : after.weights ≡ batch.weights
     pub spare : after.weights_held + after.edges_held ≤ after.capacity
-    pub count : ℕ
-    pub counted : count ≡ length batch.edges
-    pub step : IsStep batch.graph (number x.0) (number x.1) count (batch_order batch) (batch_order after)
+    pub step : IsStep batch.graph (number x.0) (number x.1) (batch_order batch) (batch_order after)
+    pub few_looks : IsWithin (budget before) (edge_count batch.graph) before.looks after.looks after.standing
 
   pub adding_on : (x : I × I × E) (after : Batch I N E) → IsNext x after → Adding number limit kind before after
   adding_on x after m =
@@ -201,16 +201,12 @@ module _ {I N E : Type 0} {number : I → ℕ} {limit : ℕ} {kind : Kind} {befo
       let T : ℕ → Type 0 = λ z.
       IsBatchSoFar limit kind before.graph after.graph (all ++ by_numbers number x ∷ []) after.edges z in
       let S : List (NewEdge E) → Type 0 = λ z. IsFaultless limit before.graph z in
-      let more : length after.given ≡ suc (length batch.given) =
-      ap length m.given ∙ length_push batch.given x ∙ add-one (length batch.given) in
       let free = free_edge g a b x.2 limit m.well_formed in
       let C : Graph N E → Type 0 = λ z. IsAcyclic z in
       let edges_then : edge_count after.graph ≡ suc (edge_count g) =
       ap edge_count m.added ∙ (count_with_edge limit g a b x.2 m.well_formed ∙ add-one (edge_count g)) in
-      let t = stepped g a b m.count (batch_order batch) (batch_order after) m.step in
-      let few =
-      t.left (before.looks + ordering_looks (edge_count before.graph) (length batch.given)) s.few_looks
-      (λ at. omega (arith, m.counted, as_many, s.left at)) (omega (arith, m.counted, as_many, count_now)) in
+      let t = stepped g a b (batch_order batch) (batch_order after) m.step in
+      let W : ℕ → Type 0 = λ z. IsWithin (budget before) z before.looks after.looks after.standing in
       record {
         series =
             subst R longer
@@ -223,19 +219,11 @@ module _ {I N E : Type 0} {number : I → ℕ} {limit : ℕ} {kind : Kind} {befo
         empty = m.same_weights ∙ s.empty;
         spare = m.spare;
         fits = (let B : Graph N E → Type 0 = λ z. node_bound z ≤ before.room in subst B (sym m.added) s.fits);
-        few_looks =
-            omega (
-              arith,
-              ap (ordering_looks (edge_count before.graph)) more,
-              few,
-              count_now,
-              ap (λ n. looks_left n after.standing) edges_then,
-            );
+        few_looks = subst W (sym edges_then) (within_more _ _ _ _ after.standing m.few_looks);
         ordered_before = order_then after.order t.orders;
         ordered_now = λ kept.
             let k = t.kept kept in
             order_kept (order_with_edge after.order k.1 a b x.2 k.2) m.added;
-        left = λ at. omega (arith, more);
         closed = λ at acyclic.
             elim (t.closed at) [
               | inl was ↦ s.closed was (still_cyclic g a b x.2 free (subst C m.added acyclic))
@@ -340,32 +328,26 @@ module _ {I N E : Type 0} {number : I → ℕ} {limit : ℕ} {kind : Kind} {befo
       )
 
   pub few_added : (edges' : List ℕ) → edges' ≡ batch.edges → (looks' : ℕ)
-      → looks' ≤ batch.looks + looks_left (edge_count batch.graph) batch.standing
-      → looks' ≤ before.looks + ordering_looks (edge_count before.graph) (length edges')
+      → looks' ≤ batch.looks + edge_count batch.graph
+      → looks' ≤ before.looks + batch_looks before.graph (length edges')
   few_added edges' kept looks' few =
-      omega (arith, s.few_looks, few, ap (ordering_looks (edge_count before.graph)) (ap length kept ∙ as_many))
+      omega (arith, within_most _ _ _ _ batch.standing s.few_looks, few, count_now, ap length kept, as_many)
 
   pub few_in_cycle : {back : List E}
       → back ≡ reverse (map (λ (x : NewEdge E). x.2) (map (by_numbers number) batch.given))
-      → (looks' looks″ : ℕ) → looks' ≤ batch.looks + looks_left (edge_count batch.graph) batch.standing
-      → looks″ ≡ looks' → looks″ ≤ before.looks + ordering_looks (edge_count before.graph) (length back)
+      → (looks' looks″ : ℕ) → looks' ≤ batch.looks + edge_count batch.graph
+      → looks″ ≡ looks' → looks″ ≤ before.looks + batch_looks before.graph (length back)
   few_in_cycle returned looks' looks″ few same =
-      omega (arith, s.few_looks, ap (ordering_looks (edge_count before.graph)) (as_many_back returned), few, same)
+      omega (arith, within_most _ _ _ _ batch.standing s.few_looks, as_many_back returned, count_now, few, same)
 
-  pub few_at_fault : (fault : Fault E) (back : Vec E Global)
+  -- and where an item is at fault, however the order stands then
+  pub few_at_fault : (fault : Fault E) (back : Vec E Global) (standing' : Standing)
       → back.items ≡ reverse (map (λ (x : NewEdge E). x.2) (map (by_numbers number) batch.given))
-      → (looks' looks″ : ℕ) → looks' ≤ batch.looks + item_looks {R = Unit {0}} (edge_count batch.graph) (Err fault)
+      → (looks' looks″ : ℕ) → IsWithin (budget before) (edge_count batch.graph) before.looks looks' standing'
       → looks″ ≡ looks' → looks″ ≤ before.looks + most_looks before.graph (Err (refusal fault back))
-  few_at_fault (BadEndpoint w) back returned looks' looks″ few same =
-      omega (arith, s.few_looks, ap (ordering_looks (edge_count before.graph)) (as_many_back returned), few, same)
-  few_at_fault (Full w) back returned looks' looks″ few same =
-      omega (arith, s.few_looks, ap (ordering_looks (edge_count before.graph)) (as_many_back returned), few, same)
-  few_at_fault (Memory w) back returned looks' looks″ few same =
-      omega (
-        arith,
-        s.few_looks,
-        count_now,
-        ap (λ k. ordering_looks (edge_count before.graph) (suc k)) (as_many_back returned),
-        few,
-        same,
-      )
+  few_at_fault (BadEndpoint w) back standing' returned looks' looks″ few same =
+      omega (arith, within_most _ _ _ _ standing' few, as_many_back returned, count_now, same)
+  few_at_fault (Full w) back standing' returned looks' looks″ few same =
+      omega (arith, within_most _ _ _ _ standing' few, as_many_back returned, count_now, same)
+  few_at_fault (Memory w) back standing' returned looks' looks″ few same =
+      omega (arith, within_most _ _ _ _ standing' few, as_many_back returned, count_now, same)

@@ -1,6 +1,6 @@
 -- An order of the nodes, before and after a change that a guard makes.
-use Rattle.std.proofs.Common.{◌≡◌, ℕ, ◌-◌, ◌<◌, ◌≤◌, true, false, not, List, [], ◌∷◌, ◌++◌, zero, suc, eqb, slice_get}
-use Rattle.std.proofs.Common.{length, set, take, drop, map, Result, Ok, Err, OnOk, OnErr, Option, Some, None, OnSome}
+use Rattle.std.proofs.Common.{◌≡◌, ℕ, ◌-◌, ◌<◌, true, false, not, List, [], ◌∷◌, ◌++◌, zero, suc, eqb, slice_get}
+use Rattle.std.proofs.Common.{length, set, map, Result, Ok, Err, OnOk, OnErr, Option, Some, None, OnSome}
 use Rattle.std.proofs.Common.{IfNone, IsSome, get_or, refl, sym, ap, subst, ◌∙◌, arith}
 use Rattle.std.specs.List.{Contains}
 use Rattle.std.proofs.lemmas.Bool.{eqb-true, eq-eqb, ne_eqb}

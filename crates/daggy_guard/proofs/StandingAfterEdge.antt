@@ -1,67 +1,55 @@
 -- How the order stands to a batch after one edge more.
-use Rattle.std.proofs.Common.{◌≡◌, ℕ, suc, ◌+◌, ◌<◌, ◌≤◌, ◌⊎◌, inl, inr, arith}
-use Rattle.daggy_base.specs.Graph.{Graph, edge_count}
+use Rattle.std.proofs.Common.{◌≡◌, ℕ, suc, ◌+◌, ◌-◌, ◌<◌, ◌≤◌, ◌⊎◌, inl, inr, arith}
+use Rattle.daggy_base.specs.Graph.{Graph}
 use Rattle.daggy_base.specs.Path.{Reaches}
 use Rattle.daggy_base.specs.Ordered.{IsOrderOf, place}
-use Rattle.daggy_guard.specs.BatchProgress.{BatchOrder, IsKept, CanStand, IsStep, looks_left}
+use Rattle.daggy_guard.specs.BatchProgress.{BatchOrder, IsKept, CanStand, IsStep, IsWithin}
 use Rattle.daggy_guard.specs.declared.edge_batch.Standing.{Standing}
-use Rattle.daggy_guard.specs.declared.edge_batch.Standing.TheVariants.{Kept, Spared, Left, Closed}
+use Rattle.daggy_guard.specs.declared.edge_batch.Standing.TheVariants.{Kept, Left, Closed}
 
--- one look is left where one was spared, and those of sorting where that is still to be done
-one_left : (edges looks most : ℕ) (s : Standing) → s ≡ Spared → looks + looks_left edges s ≤ most → suc looks ≤ most
-one_left edges looks most Kept is few = absurd cc
-one_left edges looks most Spared is few = omega (arith, few)
-one_left edges looks most Left is few = absurd cc
-one_left edges looks most Closed is few = absurd cc
+-- so many edges were read at most
+pub within_most : (budget edges start looks : ℕ) (s : Standing)
+    → IsWithin budget edges start looks s → looks ≤ start + budget + edges
+within_most budget edges start looks (Kept left) w = w.1
+within_most budget edges start looks Left w = w
+within_most budget edges start looks Closed w = w
 
-all_left : (edges looks most : ℕ) (s : Standing) → s ≡ Left → looks + looks_left edges s ≤ most → looks + edges ≤ most
-all_left edges looks most Kept is few = absurd cc
-all_left edges looks most Spared is few = absurd cc
-all_left edges looks most Left is few = few
-all_left edges looks most Closed is few = absurd cc
+-- and there is an edge more
+pub within_more : (budget edges start looks : ℕ) (s : Standing)
+    → IsWithin budget edges start looks s → IsWithin budget (suc edges) start looks s
+within_more budget edges start looks (Kept left) w = (w.0, omega (arith, w.1))
+within_more budget edges start looks Left w = omega (arith, w)
+within_more budget edges start looks Closed w = omega (arith, w)
 
-module _ {N E : Type 0} (g : Graph N E) (a b count : ℕ) (old new : BatchOrder) where
+-- a search began while some reads were left
+module _ (budget edges start looks left looks' : ℕ) (some : 0 < left) (w : IsWithin budget edges start looks (Kept left))
+    (few : looks' ≤ looks + edges) where
+  pub within_searched : looks' ≤ start + budget + edges
+  within_searched = omega (arith, w.0 some)
+
+  pub within_kept : (taken : ℕ) → looks' ≡ looks + taken → IsWithin budget edges start looks' (Kept (left - taken))
+  within_kept taken is = (λ more. omega (arith, w.0 some), within_searched)
+
+module _ {N E : Type 0} (g : Graph N E) (a b : ℕ) (old new : BatchOrder) where
   -- the order stays, or is one of the graph
-  step_order : (to : Standing) → CanStand g a b count old new to → (new.order ≡ old.order) ⊎ IsOrderOf g new.order
-  step_order Kept s = inr s.1
-  step_order Spared s = inr s.1
+  step_order : (to : Standing) → CanStand g a b old new to → (new.order ≡ old.order) ⊎ IsOrderOf g new.order
+  step_order (Kept left) s = inr s.1
   step_order Left s = inl s.1
   step_order Closed s = elim s [ inl c ↦ inl c.1 | inr r ↦ inr r.1 ]
 
   -- where the order is kept it agrees with the edge too
-  step_kept : (to : Standing) → CanStand g a b count old new to → IsKept to
+  step_kept : (to : Standing) → CanStand g a b old new to → IsKept to
       → IsKept old.standing × IsOrderOf g new.order × (place new.order a < place new.order b)
-  step_kept Kept s k = (s.0, s.1, s.2)
-  step_kept Spared s k = (s.0, s.1, s.2)
+  step_kept (Kept left) s k = s
   step_kept Left s k = absurd k
   step_kept Closed s k = absurd k
 
   -- where a cycle is closed it was, or the edge closes it
-  step_closed : (to : Standing) → CanStand g a b count old new to → to ≡ Closed
+  step_closed : (to : Standing) → CanStand g a b old new to → to ≡ Closed
       → (old.standing ≡ Closed) ⊎ Reaches g b a
-  step_closed Kept s is = absurd cc
-  step_closed Spared s is = absurd cc
+  step_closed (Kept left) s is = absurd cc
   step_closed Left s is = absurd cc
   step_closed Closed s is = elim s [ inl c ↦ inl c.0 | inr r ↦ inr r.2 ]
-
-  -- where there are as many looks for each edge as there are edges then, so many are left
-  step_left : (to : Standing) → CanStand g a b count old new to → (most : ℕ)
-      → old.looks + looks_left (edge_count g) old.standing ≤ most → (old.standing ≡ Left → 0 < count)
-      → count ≤ edge_count g → new.looks + looks_left (suc (edge_count g)) to ≤ most + edge_count g
-  step_left Kept s most few some within = omega (arith, few, s.3)
-  step_left Spared s most few some within =
-      elim s.3 [
-        | inl e ↦ omega (arith, few, e.0, e.1, within)
-        | inr m ↦ omega (arith, one_left (edge_count g) old.looks most old.standing m.0 few, m.1)
-      ]
-  step_left Left s most few some within =
-      elim s.0 [
-        | inl is ↦ omega (arith, one_left (edge_count g) old.looks most old.standing is few, s.2)
-        | inr is ↦
-            omega (arith, all_left (edge_count g) old.looks most old.standing is few, some is, within, s.2)
-      ]
-  step_left Closed s most few some within =
-      elim s [ inl c ↦ omega (arith, few, c.2) | inr r ↦ omega (arith, few, r.3) ]
 
   -- what an edge more means for the order, however that stands then
   pub record Stepped : Type 0 where
@@ -69,14 +57,10 @@ module _ {N E : Type 0} (g : Graph N E) (a b count : ℕ) (old new : BatchOrder)
     pub kept : IsKept new.standing
         → IsKept old.standing × IsOrderOf g new.order × (place new.order a < place new.order b)
     pub closed : new.standing ≡ Closed → (old.standing ≡ Closed) ⊎ Reaches g b a
-    pub left : (most : ℕ) → old.looks + looks_left (edge_count g) old.standing ≤ most
-        → (old.standing ≡ Left → 0 < count) → count ≤ edge_count g
-        → new.looks + looks_left (suc (edge_count g)) new.standing ≤ most + edge_count g
 
-  pub stepped : IsStep g a b count old new → Stepped
+  pub stepped : IsStep g a b old new → Stepped
   stepped s = record {
     orders = step_order new.standing s;
     kept = step_kept new.standing s;
     closed = step_closed new.standing s;
-    left = step_left new.standing s;
   }

@@ -1,8 +1,8 @@
 -- Batches of edges: all are added in order, or none.
-use Rattle.std.specs.Prelude.{◌≡◌, ℕ, zero, suc, ◌+◌, ◌<◌, ◌≤◌, List, [], ◌∷◌, ◌++◌, length, map, reverse, Option}
+use Rattle.std.specs.Prelude.{◌≡◌, ℕ, ◌+◌, ◌*◌, ◌<◌, ◌≤◌, max, List, [], ◌∷◌, ◌++◌, length, map, reverse, Option}
 use Rattle.std.specs.Prelude.{Result, Ok, Err}
 use Rattle.std.specs.Iterator.{Yields, Drains}
-use Rattle.daggy_base.specs.Graph.{Graph, HasNode, edge_count}
+use Rattle.daggy_base.specs.Graph.{Graph, HasNode, node_count, edge_count}
 use Rattle.daggy_base.specs.Path.{Reaches, IsAcyclic}
 use Rattle.daggy_base.specs.Adding.{NewEdge, by_numbers, with_edge, next_edge}
 use Rattle.daggy_base.specs.declared.error.EdgesError.{EdgesError}
@@ -86,15 +86,15 @@ module _ {I N E S : Type 0} (number : I → ℕ) (limit : ℕ) (gives : S → Op
   IsRefused g (Memory last before) = IsFirstFault (LacksMemory limit) g last before.items
   IsRefused g (WouldCycle w) = ClosesCycle g w.0.items
 
--- how many edge reads it takes at most to update the order for that many edges in turn: each time as many as there are
-abbrev pub ordering_looks : (edges count : ℕ) → ℕ
-ordering_looks edges zero = 0
-ordering_looks edges (suc count) = ordering_looks edges count + (edges + count)
+-- How many edges are read at most for a batch of `count` edges: by searches as many as there were nodes or edges before,
+-- by one more search all edges, and by sorting all edges.
+abbrev pub batch_looks : {N E : Type 0} → Graph N E → (count : ℕ) → ℕ
+batch_looks g count = max (node_count g) (edge_count g) + 2 * (edge_count g + count)
 
--- how many edges were read at most. If an allocation fails, it may fail after the order was updated for the last edge
+-- how many were read at most, by the edges that were accepted or refused together, or came before the invalid one
 abbrev pub most_looks : {N E : Type 0} → Graph N E → Result (List ℕ) (EdgesError E) → ℕ
-most_looks g (Ok edges) = ordering_looks (edge_count g) (length edges)
-most_looks g (Err (WouldCycle w)) = ordering_looks (edge_count g) (length w.0.items)
-most_looks g (Err (Memory last before)) = ordering_looks (edge_count g) (suc (length before.items))
-most_looks g (Err (BadEndpoint last before)) = ordering_looks (edge_count g) (length before.items)
-most_looks g (Err (Full last before)) = ordering_looks (edge_count g) (length before.items)
+most_looks g (Ok edges) = batch_looks g (length edges)
+most_looks g (Err (WouldCycle w)) = batch_looks g (length w.0.items)
+most_looks g (Err (Memory last before)) = batch_looks g (length before.items)
+most_looks g (Err (BadEndpoint last before)) = batch_looks g (length before.items)
+most_looks g (Err (Full last before)) = batch_looks g (length before.items)

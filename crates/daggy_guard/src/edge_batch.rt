@@ -1,9 +1,9 @@
 //! Batches of edges: all or none.
-ghost use Rattle.std.specs.Prelude.{◌≡◌, ℕ, ◌+◌, ◌<◌, ◌≤◌, ◌↔◌, ◌⊎◌, true, false, List, [], ◌∷◌};
+ghost use Rattle.std.specs.Prelude.{◌≡◌, ℕ, ◌+◌, ◌<◌, ◌≤◌, ◌↔◌, ◌⊎◌, true, false, max, List, [], ◌∷◌};
 ghost use Rattle.std.specs.Prelude.{◌++◌, length, map, reverse, vec_len, vec_capacity, Contains};
 ghost use Rattle.std.specs.Prelude.{IfOk, OnOk, IfErr, OnErr};
 ghost use Rattle.std.specs.Iterator.{IsFinite, IsFiniteIterable};
-ghost use Rattle.daggy_base.specs.Graph.{Graph, HasNode, node_bound, edge_count};
+ghost use Rattle.daggy_base.specs.Graph.{Graph, HasNode, node_bound, node_count, edge_count};
 ghost use Rattle.daggy_base.specs.Path.{IsAcyclic};
 ghost use Rattle.daggy_base.specs.Adding.{with_edge, next_edge};
 ghost use Rattle.daggy_base.specs.WellFormed.{IsWellFormed};
@@ -11,8 +11,8 @@ ghost use Rattle.daggy_base.specs.Ordered.{IsOrderOf};
 ghost use Rattle.daggy_guard.specs.EdgeBatch.{HasEnds, IsAdded, IsRefused};
 ghost use Rattle.daggy_base.specs.Adding.{NewEdge, by_numbers};
 ghost use Rattle.daggy_guard.specs.EdgeBatch.{most_looks};
-ghost use Rattle.daggy_guard.specs.BatchProgress.{IsBatchSoFar, IsFault, IsKept, IsStep};
-ghost use Rattle.daggy_guard.specs.BatchProgress.{item_looks, looks_left, refusal};
+ghost use Rattle.daggy_guard.specs.BatchProgress.{IsBatchSoFar, IsFault, IsKept, IsStep, IsWithin};
+ghost use Rattle.daggy_guard.specs.BatchProgress.{refusal};
 ghost use Rattle.daggy_guard.specs.declared.edge_batch.Standing.TheVariants.{Closed};
 
 use crate::edge_indices::EdgeIndices;
@@ -20,9 +20,10 @@ use crate::guard::Guarded;
 use crate::packed::sort;
 use daggy_base::error::{EdgesError, WouldCycle};
 use daggy_base::index::{EdgeIndex, IndexType, NodeIndex};
+use daggy_base::read_store::ReadStore;
 use daggy_base::store::Store;
-use daggy_edge_order::edge_order::order_new_edge;
-use daggy_order::order::Order;
+use daggy_edge_order::edge_order::order_without_search;
+use daggy_order::order::{Order, order_edge_counted};
 use daggy_search::Scratch;
 
 // Why an edge cannot be added, with its weight.
@@ -81,14 +82,20 @@ fn roll_back<Ix: IndexType, S: Store<Ix>>(
 // How the order relates to the edges of a batch that were added so far.
 #[derive(Clone, Copy)]
 pub(crate) enum Standing {
-    // It agrees with all of them.
-    Kept,
-    // It agrees with all of them, and one after the first needed no search.
-    Spared,
+    // It agrees with all of them. Searches may read this many edges more before it is abandoned.
+    Kept(usize),
     // It was abandoned at an edge that conflicts with it. All nodes are sorted at the end.
     Left,
     // One of them closed a cycle.
     Closed,
+}
+
+// How many edges the searches for a batch may read before the order is abandoned: about as many as
+// sorting reads.
+fn search_budget<Ix: IndexType, S: ReadStore<Ix>>(store: &S) -> usize
+    ensures { result ≡ max (node_count (S.graph store.now)) (edge_count (S.graph store.now)) }
+{
+    store.node_count().max(store.edge_count())
 }
 
 // A batch of fewer edges is never long.
@@ -103,19 +110,18 @@ fn is_long(len: usize, nodes: usize, edges: usize) -> bool {
     len >= LONG && len >= nodes / SHARE && len >= edges / SHARE
 }
 
-// Updates the order for the edge after the first `count` of a batch of at least `len` edges.
+// Updates the order for the next edge of a batch of at least `len` edges.
 //
-// After the first edge that closes a cycle it does nothing. If the batch is long compared with the
-// graph, searching for each edge would cost more than sorting all nodes once, so the order is
-// abandoned. It is abandoned only once some edge has needed no search; otherwise sorting could read
-// more edges than the searches would.
-fn order_item<Ix: IndexType, S: Store<Ix>>(
+// After the first edge that closes a cycle it does nothing. At an edge that needs a search it
+// abandons the order if sorting all nodes once is expected to cost less than searching for each
+// edge: if the batch is long compared with the graph, or if searches have read as many edges as
+// they may.
+fn order_item<Ix: IndexType, S: ReadStore<Ix>>(
     store: &mut S,
     order: &mut Order<Ix>,
     scratch: &mut Scratch<Ix>,
     a: NodeIndex<Ix>,
     b: NodeIndex<Ix>,
-    count: usize,
     len: usize,
     standing: Standing,
 ) -> Standing
@@ -123,33 +129,29 @@ fn order_item<Ix: IndexType, S: Store<Ix>>(
     requires child { HasNode (S.graph store.old) (Ix.number b) }
     requires fits { node_bound (S.graph store.old) ≤ scratch.old.nodes }
     requires ordered { IsKept standing → IsOrderOf (S.graph store.old) order.old }
-    ensures step { IsStep (S.graph store.old) (Ix.number a) (Ix.number b) count
-        (record { standing = standing; order = order.old; looks = S.looks store.old })
-        (record { standing = result; order = order.new; looks = S.looks store.new }) }
+    ensures step { IsStep (S.graph store.old) (Ix.number a) (Ix.number b)
+        (record { standing = standing; order = order.old })
+        (record { standing = result; order = order.new }) }
     ensures looked { S.looks store.old ≤ S.looks store.new }
+    ensures counted { (budget start : ℕ)
+        → IsWithin budget (edge_count (S.graph store.old)) start (S.looks store.old) standing
+        → IsWithin budget (edge_count (S.graph store.old)) start (S.looks store.new) result }
     ensures same { S.graph store.new ≡ S.graph store.old }
     ensures same_capacity { scratch.new ≡ scratch.old }
 {
     store.invariant();
-    let spared = match standing {
-        Standing::Kept => false,
-        Standing::Spared => true,
-        Standing::Left | Standing::Closed => return standing,
+    let Standing::Kept(left) = standing else {
+        return standing;
     };
-    if order.stands_before(a, b) {
-        return if count > 0 {
-            Standing::Spared
-        } else {
-            Standing::Kept
-        };
+    if order_without_search(store, order, a, b) {
+        return standing;
     }
-    if spared && is_long(len, store.node_slots(), store.edge_slots()) {
+    if left == 0 || is_long(len, store.node_slots(), store.edge_slots()) {
         return Standing::Left;
     }
-    if order_new_edge(store, order, scratch, a, b) {
-        standing
-    } else {
-        Standing::Closed
+    match order_edge_counted(store, order, a, b, scratch) {
+        Some(looks) => Standing::Kept(left.saturating_sub(looks)),
+        None => Standing::Closed,
     }
 }
 
@@ -182,13 +184,13 @@ fn add_item<Ix: IndexType, S: Store<Ix>>(
     ensures weights { weights.new.items ≡ weights.old.items }
     ensures capacity { vec_len weights.new + vec_len edges.new ≤ vec_capacity weights.new }
     ensures step { OnOk result (IsStep (S.graph store.old) (Ix.number item.0) (Ix.number item.1)
-        (vec_len edges.old)
-        (record { standing = standing.old; order = order.old; looks = S.looks store.old })
-        (record { standing = standing.new; order = order.new; looks = S.looks store.new })) }
+        (record { standing = standing.old; order = order.old })
+        (record { standing = standing.new; order = order.new })) }
     ensures ordered { (order.new ≡ order.old) ⊎ IsOrderOf (S.graph store.old) order.new }
     ensures looked { S.looks store.old ≤ S.looks store.new }
-    ensures counted { S.looks store.new
-        ≤ S.looks store.old + item_looks (edge_count (S.graph store.old)) result }
+    ensures counted { (budget start : ℕ)
+        → IsWithin budget (edge_count (S.graph store.old)) start (S.looks store.old) standing.old
+        → IsWithin budget (edge_count (S.graph store.old)) start (S.looks store.new) standing.new }
     ensures scratch_kept { scratch.new ≡ scratch.old }
 {
     store.invariant();
@@ -203,7 +205,7 @@ fn add_item<Ix: IndexType, S: Store<Ix>>(
     if edges.reserve(len - edges.len()).is_err() || weights.reserve(len).is_err() {
         return Err(Fault::Memory(weight));
     }
-    *standing = order_item(store, order, scratch, a, b, edges.len(), len, *standing);
+    *standing = order_item(store, order, scratch, a, b, len, *standing);
     match store.add_edge(a, b, weight) {
         Ok(e) => {
             edges.push_reserved(e);
@@ -215,7 +217,7 @@ fn add_item<Ix: IndexType, S: Store<Ix>>(
 
 // Makes the order consistent with every edge of the batch. Returns false, with the order unchanged,
 // if one of them closes a cycle.
-fn settle<Ix: IndexType, S: Store<Ix>>(
+fn settle<Ix: IndexType, S: ReadStore<Ix>>(
     store: &mut S,
     order: &mut Order<Ix>,
     scratch: &mut Scratch<Ix>,
@@ -230,12 +232,11 @@ fn settle<Ix: IndexType, S: Store<Ix>>(
     ensures kept { result ≡ false → order.new ≡ order.old }
     ensures same { S.graph store.new ≡ S.graph store.old }
     ensures looked { S.looks store.old ≤ S.looks store.new }
-    ensures counted { S.looks store.new
-        ≤ S.looks store.old + looks_left (edge_count (S.graph store.old)) standing }
+    ensures counted { S.looks store.new ≤ S.looks store.old + edge_count (S.graph store.old) }
     ensures same_capacity { scratch.new ≡ scratch.old }
 {
     match standing {
-        Standing::Kept | Standing::Spared => true,
+        Standing::Kept(_) => true,
         Standing::Left => sort(store, order, scratch),
         Standing::Closed => false,
     }
@@ -274,7 +275,7 @@ fn add_all<
     let (expected, _most) = items.size_hint();
     let mut edges = Vec::new(alloc);
     let mut weights = Vec::new(alloc);
-    let mut standing = Standing::Kept;
+    let mut standing = Standing::Kept(search_budget(store));
     'items: for item in items {
         match add_item(
             store,

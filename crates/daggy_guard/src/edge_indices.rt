@@ -32,8 +32,11 @@ impl<Ix: IndexType> EdgeIndices<Ix> {
         EdgeIndices { indices, at: 0 }
     }
 
-    /// The indices not yielded yet, as a list. Does not allocate; does not move anything unless the
-    /// iterator was advanced.
+    /// The indices that were not yielded yet, as a list. Does not allocate.
+    ///
+    /// # Complexity
+    ///
+    /// O(1) if none was yielded before, and otherwise O(indices left), which are moved.
     pub fn into_vec(self) -> Vec<EdgeIndex<Ix>>
         ensures { map Ix.number result.items ≡ self }
     {

@@ -10,10 +10,11 @@ use crate::guard::Guarded;
 use daggy_base::element::Element;
 use daggy_base::error::{EdgeError, ElementError, NodeError};
 use daggy_base::index::{IndexType, NodeIndex};
+use daggy_base::read_store::ReadStore;
 use daggy_base::store::Store;
 
 // The node at a position, if there is one.
-fn node_at<Ix: IndexType, S: Store<Ix>>(store: &S, position: usize) -> Option<NodeIndex<Ix>>
+fn node_at<Ix: IndexType, S: ReadStore<Ix>>(store: &S, position: usize) -> Option<NodeIndex<Ix>>
     ensures { MatchOption result (HasNode (S.graph store.now) position → ⊥)
         (λ n. (Ix.number n ≡ position) × HasNode (S.graph store.now) position) }
 {

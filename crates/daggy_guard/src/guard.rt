@@ -21,6 +21,8 @@ ghost use Rattle.daggy_base.specs.declared.error.ChildError.TheVariants.{Memory 
 
 use daggy_base::error::{ChildError, EdgeError, NodeError, WouldCycle};
 use daggy_base::index::{Direction, EdgeIndex, IndexType, NodeIndex};
+use daggy_base::read_store::ReadStore;
+use daggy_base::source::EdgeSource;
 use daggy_base::store::Store;
 use daggy_edge_order::edge_order::order_new_edge;
 use daggy_order::order::Order;
@@ -32,7 +34,7 @@ use std::marker::{Model, PhantomData};
 /// A store whose graph is acyclic, with a topological order of its nodes and the memory of
 /// searches, which fits searches of the graph.
 #[derive(Drop)]
-pub struct Guarded<Ix: IndexType, S: Store<Ix>> {
+pub struct Guarded<Ix: IndexType, S: EdgeSource<Ix>> {
     #[doc(hidden)]
     pub store: S,
     #[doc(hidden)]
@@ -44,7 +46,7 @@ pub struct Guarded<Ix: IndexType, S: Store<Ix>> {
     edge_weight: PhantomData<S::EdgeWeight>,
 }
 
-impl<Ix: IndexType, S: Store<Ix>> Model for Guarded<Ix, S> {
+impl<Ix: IndexType, S: EdgeSource<Ix>> Model for Guarded<Ix, S> {
     ghost use Rattle.std.specs.Prelude.{◌≤◌};
     ghost use Rattle.daggy_base.specs.Graph.{node_bound};
     ghost use Rattle.daggy_base.specs.Ordered.{IsOrderOf};
@@ -56,6 +58,17 @@ impl<Ix: IndexType, S: Store<Ix>> Model for Guarded<Ix, S> {
 
     ghost invariant = { λ g.
         IsOrderOf (S.graph g.store) g.order × (node_bound (S.graph g.store) ≤ g.scratch.nodes) };
+}
+
+impl<Ix: IndexType, S: ReadStore<Ix>> Guarded<Ix, S> {
+    /// Does nothing. Called for its contract: what always holds.
+    #[inline]
+    pub fn invariant(&self)
+        ensures dag { IsDag Ix.greatest self.now.graph }
+        ensures compact { S.KIND ≡ Compact → IsCompact self.now.graph }
+    {
+        self.store.invariant();
+    }
 }
 
 impl<Ix: IndexType, S: Store<Ix>> Guarded<Ix, S> {
@@ -85,15 +98,6 @@ impl<Ix: IndexType, S: Store<Ix>> Guarded<Ix, S> {
             node_weight: PhantomData,
             edge_weight: PhantomData,
         }
-    }
-
-    /// Does nothing. Called for its contract: what always holds.
-    #[inline]
-    pub fn invariant(&self)
-        ensures dag { IsDag Ix.greatest self.now.graph }
-        ensures compact { S.KIND ≡ Compact → IsCompact self.now.graph }
-    {
-        self.store.invariant();
     }
 
     /// Adds a node, last in the order.

@@ -1,5 +1,5 @@
-//! The changes that keep any store acyclic, one at a time and many at once, and what both kinds of
-//! dag read the same way.
+//! All changes of a store, one at a time or many at once, that keep it acyclic, and the questions
+//! that both kinds of dag answer the same way.
 #![tactic(auto)]
 
 pub mod edge_batch;

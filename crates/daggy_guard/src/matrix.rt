@@ -4,7 +4,7 @@ ghost use Rattle.daggy_base.specs.Path.{AreJoined};
 ghost use Rattle.daggy_visit.specs.Visit.{HasPair};
 
 use daggy_base::index::{EdgeIndex, IndexType};
-use daggy_base::store::Store;
+use daggy_base::read_store::ReadStore;
 use daggy_visit::visit::AdjMatrix;
 use std::alloc::{AllocError, Global};
 
@@ -17,7 +17,7 @@ use std::alloc::{AllocError, Global};
 /// # Complexity
 ///
 /// O(edge bound + (node bound)^2 / 64).
-pub fn adjacency_matrix<Ix: IndexType, S: Store<Ix>>(
+pub fn adjacency_matrix<Ix: IndexType, S: ReadStore<Ix>>(
     store: &S,
     alloc: Global,
 ) -> Result<AdjMatrix<Ix>, AllocError>

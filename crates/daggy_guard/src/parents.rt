@@ -1,24 +1,131 @@
 //! The edges that enter a node, replaced all at once: what a dag does before it removes the old ones.
-ghost use Rattle.std.specs.Prelude.{◌≡◌, ℕ, ◌+◌, ◌*◌, ◌<◌, ◌≤◌, ◌↔◌, true, false, List, ◌++◌, length};
+ghost use Rattle.std.specs.Prelude.{◌≡◌, ◌≢◌, ℕ, ◌+◌, ◌<◌, ◌≤◌, ◌↔◌, ◌⊎◌, true, false, List, ◌++◌, length, Contains};
 ghost use Rattle.std.specs.Prelude.{map, reverse, take, vec_len, vec_capacity, IfOk, OnOk, IfErr, OnErr};
 ghost use Rattle.std.specs.List.{All};
 ghost use Rattle.daggy_base.specs.Graph.{Graph, HasNode, node_bound, edge_count};
 ghost use Rattle.daggy_base.specs.Ordered.{IsOrderOf, place};
+ghost use Rattle.daggy_base.specs.Path.{Reaches};
 ghost use Rattle.daggy_base.specs.WellFormed.{IsWellFormed};
 ghost use Rattle.daggy_guard.specs.BatchProgress.{IsBatchSoFar};
 ghost use Rattle.daggy_guard.specs.EdgeBatch.{with_edges, new_edges};
 ghost use Rattle.daggy_guard.specs.Parents.{edges_to, ReachesParent};
 
 use daggy_base::index::{EdgeIndex, IndexType, NodeIndex};
+use daggy_base::read_store::ReadStore;
 use daggy_base::store::Store;
-use daggy_edge_order::edge_order::order_new_edge;
-use daggy_order::order::Order;
+use daggy_edge_order::edge_order::order_without_search;
+use daggy_order::order::{Order, order_edge};
 use daggy_search::Scratch;
 use std::alloc::Global;
 
+// Puts the parents of items before `n` in the order, as far as that needs no search.
+fn order_parents_without_search<Ix: IndexType, S: ReadStore<Ix>>(
+    store: &S,
+    order: &mut Order<Ix>,
+    n: NodeIndex<Ix>,
+    items: &[(NodeIndex<Ix>, S::EdgeWeight)],
+)
+    requires node { HasNode (S.graph store.now) (Ix.number n) }
+    requires parents { All (λ x. HasNode (S.graph store.now) (Ix.number x.0)) items.now }
+    requires ordered { IsOrderOf (S.graph store.now) order.old }
+    ensures { IsOrderOf (S.graph store.now) order.new }
+{
+    'items: for i in 0..items.len() {
+        order_without_search(store, order, items[i].0, n);
+    }
+}
+
+// The later, in the order, of two nodes.
+fn later_of<Ix: IndexType>(order: &Order<Ix>, a: NodeIndex<Ix>, b: NodeIndex<Ix>) -> NodeIndex<Ix>
+    requires first { Contains order.now (Ix.number a) }
+    requires second { Contains order.now (Ix.number b) }
+    ensures { ((result ≡ a) × (place order.now (Ix.number b) ≤ place order.now (Ix.number a)))
+        ⊎ ((result ≡ b) × (place order.now (Ix.number a) < place order.now (Ix.number b))) }
+{
+    if order.stands_before(a, b) { b } else { a }
+}
+
+// The last, in the order, of `n` and the parents of the items.
+fn last_of<Ix: IndexType, E>(
+    order: &Order<Ix>,
+    n: NodeIndex<Ix>,
+    items: &[(NodeIndex<Ix>, E)],
+) -> NodeIndex<Ix>
+    requires node { Contains order.now (Ix.number n) }
+    requires parents { All (λ x. Contains order.now (Ix.number x.0)) items.now }
+    ensures one { (Ix.number result ≡ Ix.number n)
+        ⊎ ((x : Ix × E) × Contains items.now x × (Ix.number x.0 ≡ Ix.number result)) }
+    ensures behind { place order.now (Ix.number n) ≤ place order.now (Ix.number result) }
+    ensures last { All (λ x. place order.now (Ix.number x.0) ≤ place order.now (Ix.number result)) items.now }
+{
+    let mut last = n;
+    'items: for i in 0..items.len() {
+        last = later_of(order, last, items[i].0);
+    }
+    last
+}
+
+// Whether the parent of each item precedes `n`.
+fn precede<Ix: IndexType, E>(
+    order: &Order<Ix>,
+    n: NodeIndex<Ix>,
+    items: &[(NodeIndex<Ix>, E)],
+) -> bool
+    requires node { Contains order.now (Ix.number n) }
+    requires parents { All (λ x. Contains order.now (Ix.number x.0)) items.now }
+    ensures all { result ≡ true
+        → All (λ x. place order.now (Ix.number x.0) < place order.now (Ix.number n)) items.now }
+    ensures some { result ≡ false → (x : Ix × E) × Contains items.now x
+        × (place order.now (Ix.number n) ≤ place order.now (Ix.number x.0)) }
+{
+    'items: for i in 0..items.len() {
+        if !order.stands_before(items[i].0, n) {
+            return false;
+        }
+    }
+    true
+}
+
+// Updates the order for an edge from `last` to `n`, unless they are the same node. Returns false if
+// `n` reaches it. Otherwise, of the nodes that did not follow `last`, `n` reaches those that do not
+// precede it then.
+fn order_up_to<Ix: IndexType, S: ReadStore<Ix>>(
+    store: &mut S,
+    order: &mut Order<Ix>,
+    scratch: &mut Scratch<Ix>,
+    last: NodeIndex<Ix>,
+    n: NodeIndex<Ix>,
+) -> bool
+    requires last { HasNode (S.graph store.old) (Ix.number last) }
+    requires node { HasNode (S.graph store.old) (Ix.number n) }
+    requires fits { node_bound (S.graph store.old) ≤ scratch.old.nodes }
+    requires ordered { IsOrderOf (S.graph store.old) order.old }
+    requires behind { place order.old (Ix.number n) ≤ place order.old (Ix.number last) }
+    ensures refused { result ≡ false → (Ix.number last ≢ Ix.number n)
+        × Reaches (S.graph store.old) (Ix.number n) (Ix.number last) }
+    ensures reached { result ≡ true → (u : ℕ) → HasNode (S.graph store.old) u
+        → place order.old u ≤ place order.old (Ix.number last)
+        → place order.new (Ix.number n) ≤ place order.new u
+        → Reaches (S.graph store.old) (Ix.number n) u }
+    ensures ordered { IsOrderOf (S.graph store.old) order.new }
+    ensures same { S.graph store.new ≡ S.graph store.old }
+    ensures looked { S.looks store.old ≤ S.looks store.new }
+    ensures counted { S.looks store.new ≤ S.looks store.old + edge_count (S.graph store.old) }
+    ensures same_capacity { scratch.new ≡ scratch.old }
+{
+    store.invariant();
+    if last.index() == n.index() {
+        return true;
+    }
+    order_edge(store, order, last, n, scratch)
+}
+
 /// Updates the order so that the parent of each item precedes `n`. Returns false if `n` reaches one
 /// of them.
-pub fn make_way_for_parents<Ix: IndexType, S: Store<Ix>>(
+///
+/// It searches once, for the last of them in the order. What `n` reaches before that one is moved
+/// behind it, so each of the others precedes `n` then, or is reached too.
+pub fn make_way_for_parents<Ix: IndexType, S: ReadStore<Ix>>(
     store: &mut S,
     order: &mut Order<Ix>,
     scratch: &mut Scratch<Ix>,
@@ -36,17 +143,16 @@ pub fn make_way_for_parents<Ix: IndexType, S: Store<Ix>>(
         → All (λ x. place order.new (Ix.number x.0) < place order.new (Ix.number n)) items.now }
     ensures same { S.graph store.new ≡ S.graph store.old }
     ensures looked { S.looks store.old ≤ S.looks store.new }
-    ensures counted { S.looks store.new
-        ≤ S.looks store.old + length items.now * edge_count (S.graph store.old) }
+    ensures counted { S.looks store.new ≤ S.looks store.old + edge_count (S.graph store.old) }
     ensures same_capacity { scratch.new ≡ scratch.old }
 {
-    'items: for i in 0..items.len() {
-        let parent = items[i].0;
-        if !order_new_edge(store, order, scratch, parent, n) {
-            return false;
-        }
+    store.invariant();
+    order_parents_without_search(store, order, n, items);
+    let last = last_of(order, n, items);
+    if !order_up_to(store, order, scratch, last, n) {
+        return false;
     }
-    true
+    precede(order, n, items)
 }
 
 // Removes the edges of the first items, the newest first, and appends each item to the others again.

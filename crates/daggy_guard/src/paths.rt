@@ -6,11 +6,11 @@ ghost use Rattle.daggy_base.specs.Path.{Reaches};
 
 use crate::guard::Guarded;
 use daggy_base::index::{IndexType, NodeIndex};
-use daggy_base::store::Store;
+use daggy_base::read_store::ReadStore;
 use daggy_order::order::{path_in, reaches_in};
 use std::alloc::AllocError;
 
-impl<Ix: IndexType, S: Store<Ix>> Guarded<Ix, S> {
+impl<Ix: IndexType, S: ReadStore<Ix>> Guarded<Ix, S> {
     /// Whether a path leads from `a` to `b`, by the order.
     pub fn reaches(&mut self, a: NodeIndex<Ix>, b: NodeIndex<Ix>) -> bool
         ensures decided { IsTrue result ↔ Reaches self.old.graph (Ix.number a) (Ix.number b) }

@@ -1,4 +1,4 @@
-//! The dag whose indices outlive removals, under the names that go with it.
+//! The stable dag, whose indices outlive removals, and the types of its methods.
 use daggy_base::index::DefaultIx;
 pub use daggy_base::index::{EdgeIndex, NodeIndex};
 use daggy_dag::acyclic;
@@ -12,7 +12,8 @@ pub use daggy_walk::walker::Walker;
 /// A walk over a [`StableDag`] along edges that a function chooses.
 pub type RecursiveWalk<N, E, Ix, F> = Recursive<StableDag<N, E, Ix>, F>;
 
-/// Lends the weights of the nodes of a [`StableDag`], one at a time, by ascending index.
+/// Mutable references to the weights of the nodes of a [`StableDag`], one at a time, in ascending
+/// index order.
 pub type NodeWeightsMut<'a, N, E, Ix = DefaultIx> = acyclic::NodeWeightsMut<
     'a,
     N,
@@ -21,7 +22,8 @@ pub type NodeWeightsMut<'a, N, E, Ix = DefaultIx> = acyclic::NodeWeightsMut<
     StableDiGraph<N, E, Ix>,
 >;
 
-/// Lends the weights of the edges of a [`StableDag`], one at a time, by ascending index.
+/// Mutable references to the weights of the edges of a [`StableDag`], one at a time, in ascending
+/// index order.
 pub type EdgeWeightsMut<'a, N, E, Ix = DefaultIx> = acyclic::EdgeWeightsMut<
     'a,
     N,

@@ -1,29 +1,15 @@
 //! Whether two dags have the same reachability.
-ghost use Rattle.std.specs.Prelude.{◌≡◌, ℕ, ◌<◌, ◌≤◌, ◌↔◌, map, Contains, IfOk, IsTrue};
+ghost use Rattle.std.specs.Prelude.{◌≡◌, ◌↔◌, IfOk, IsTrue};
 ghost use Rattle.daggy_base.specs.Graph.{node_count as node_count_of};
 ghost use Rattle.daggy_redundant.specs.Comparison.{HaveSameReachability, IsReducedShape};
 
 use crate::acyclic::Dag;
-use daggy_base::index::{IndexType, NodeIndex};
+use daggy_base::index::IndexType;
 use daggy_base::source::EdgeSource;
 use daggy_graph::graph::DiGraph;
 use daggy_reduction::joined_pairs::join_same_pairs;
 use daggy_search::Worklist;
-use std::alloc::{AllocError, Global};
-
-// The nodes below a number.
-fn nodes_below<Ix: IndexType>(alloc: Global, count: usize) -> Result<Vec<NodeIndex<Ix>>, AllocError>
-    requires { count ≤ Ix.greatest }
-    ensures { IfOk result (λ nodes. (n : ℕ) → n < count → Contains (map Ix.number nodes.items) n) }
-{
-    let mut nodes = Vec::new(alloc);
-    let mut n = 0;
-    'nodes: while n < count {
-        nodes.push(NodeIndex::new(n))?;
-        n += 1;
-    }
-    Ok(nodes)
-}
+use std::alloc::AllocError;
 
 // A copy of a dag without its weights, reduced from all nodes.
 fn reduced_shape<N: Drop, E: Drop, Ix: IndexType>(
@@ -32,15 +18,16 @@ fn reduced_shape<N: Drop, E: Drop, Ix: IndexType>(
     ensures { IfOk result (λ shape. IsReducedShape Ix.greatest dag.now.graph shape.graph) }
 {
     let mut shape = dag.map(|_, _| (), |_, _| ())?;
-    let nodes = nodes_below(shape.allocator(), shape.node_count())?;
-    shape.transitive_reduce(nodes)?;
+    // Called for its contract: the copy is a dag.
+    let _count = shape.node_count();
+    shape.transitive_reduce_all()?;
     Ok(shape.into_graph())
 }
 
 /// Whether two dags have the same number of nodes and the same reachability relation.
 ///
-/// It reduces a copy of each, without weights, from all nodes, and compares which nodes are joined
-/// then. Both dags are unchanged.
+/// It reduces a copy of each, without weights, from all nodes, and compares which nodes are
+/// adjacent then. Both dags are unchanged.
 ///
 /// # Errors
 ///
@@ -48,8 +35,21 @@ fn reduced_shape<N: Drop, E: Drop, Ix: IndexType>(
 ///
 /// # Complexity
 ///
-/// That of two copies and their reductions: see
+/// The cost of two copies and of their reductions: see
 /// [`transitive_reduce`](crate::acyclic::Acyclic::transitive_reduce).
+///
+/// # Examples
+///
+/// ```
+/// let mut plan: Dag<&'static str, ()> = Dag::new(rt.alloc());
+/// let sow = plan.add_node("sow")?;
+/// let (_, grow) = plan.add_child(sow, (), "grow")?;
+/// let (_, reap) = plan.add_child(grow, (), "reap")?;
+/// let mut copy = plan.try_clone()?;
+/// // A longer path leads there already.
+/// assert!(rt; copy.add_edge(sow, reap, ()).is_ok());
+/// assert!(rt; same_reachability(&plan, &copy)?);
+/// ```
 pub fn same_reachability<N: Drop, E: Drop, M: Drop, F: Drop, Ix: IndexType>(
     a: &Dag<N, E, Ix>,
     b: &Dag<M, F, Ix>,

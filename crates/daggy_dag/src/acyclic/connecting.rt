@@ -5,7 +5,7 @@ ghost use Rattle.daggy_dag.specs.Connecting.{edges_connecting as edges_connectin
 
 use crate::acyclic::Acyclic;
 use daggy_base::index::{Direction, EdgeIndex, IndexType, NodeIndex};
-use daggy_base::store::Store;
+use daggy_base::read_store::ReadStore;
 use daggy_cells::reference::EdgeReference;
 use std::alloc::AllocError;
 use std::fmt;
@@ -16,16 +16,17 @@ use std::marker::{Model, PhantomData};
 ///
 /// # Complexity
 ///
-/// O(children of the first node) in total.
+/// O(children of the first node) for the whole iteration.
 #[derive(Drop)]
-pub struct EdgesConnecting<'a, E, Ix: IndexType, S: Store<Ix, EdgeWeight = E>> {
+pub struct EdgesConnecting<'a, E, Ix: IndexType, S: ReadStore<Ix, EdgeWeight = E>> {
     store: &'a S,
     next: EdgeIndex<Ix>,
     child: NodeIndex<Ix>,
     weight: PhantomData<E>,
 }
 
-impl<'a, E, Ix: IndexType, S: Store<Ix, EdgeWeight = E>> Model for EdgesConnecting<'a, E, Ix, S> {
+impl<'a, E, Ix: IndexType, S: ReadStore<Ix, EdgeWeight = E>> Model
+    for EdgesConnecting<'a, E, Ix, S> {
     ghost use Rattle.std.specs.Prelude.{ℕ, List};
     ghost use Rattle.daggy_base.specs.Graph.{Edge as PlainEdge};
     ghost use Rattle.daggy_dag.specs.Connecting.{connecting_from};
@@ -38,13 +39,13 @@ impl<'a, E, Ix: IndexType, S: Store<Ix, EdgeWeight = E>> Model for EdgesConnecti
 
 impl<N: Drop, E: Drop, Ix: IndexType, S> Acyclic<N, E, Ix, S>
 where
-    S: Store<Ix, NodeWeight = N, EdgeWeight = E>,
+    S: ReadStore<Ix, NodeWeight = N, EdgeWeight = E>,
 {
     /// The edges from `a` to `b`, newest first, or none if a node does not exist.
     ///
     /// # Complexity
     ///
-    /// O(children of `a`) in total.
+    /// O(children of `a`) for the whole iteration.
     ///
     /// # Examples
     ///
@@ -78,7 +79,7 @@ where
     }
 }
 
-impl<'a, E: 'a, Ix: IndexType, S: Store<Ix, EdgeWeight = E>> Iterator
+impl<'a, E: 'a, Ix: IndexType, S: ReadStore<Ix, EdgeWeight = E>> Iterator
     for EdgesConnecting<'a, E, Ix, S> {
     ghost use Rattle.daggy_cells.specs.Referring.{referred};
 
@@ -103,10 +104,11 @@ impl<'a, E: 'a, Ix: IndexType, S: Store<Ix, EdgeWeight = E>> Iterator
     }
 }
 
-impl<'a, E: 'a, Ix: IndexType, S: Store<Ix, EdgeWeight = E>> FusedIterator
+impl<'a, E: 'a, Ix: IndexType, S: ReadStore<Ix, EdgeWeight = E>> FusedIterator
     for EdgesConnecting<'a, E, Ix, S> {}
 
-impl<'a, E, Ix: IndexType, S: Store<Ix, EdgeWeight = E>> Clone for EdgesConnecting<'a, E, Ix, S> {
+impl<'a, E, Ix: IndexType, S: ReadStore<Ix, EdgeWeight = E>> Clone
+    for EdgesConnecting<'a, E, Ix, S> {
     ghost is_clone = { λ a b. a ≡ b };
 
     fn clone(&self) -> Result<Self, AllocError> {
@@ -119,7 +121,7 @@ impl<'a, E, Ix: IndexType, S: Store<Ix, EdgeWeight = E>> Clone for EdgesConnecti
     }
 }
 
-impl<'a, E, Ix: IndexType, S: Store<Ix, EdgeWeight = E>> fmt::Debug
+impl<'a, E, Ix: IndexType, S: ReadStore<Ix, EdgeWeight = E>> fmt::Debug
     for EdgesConnecting<'a, E, Ix, S> {
     fn fmt<W: fmt::Write>(&self, f: &mut fmt::Formatter<W>) -> fmt::Result {
         f.debug_struct("EdgesConnecting").finish_non_exhaustive()

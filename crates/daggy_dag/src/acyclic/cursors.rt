@@ -9,10 +9,11 @@ ghost use Rattle.daggy_dag.specs.Cursors.{nodes_lend_next, edges_lend_next};
 
 use crate::acyclic::Acyclic;
 use daggy_base::index::{DefaultIx, EdgeIndex, IndexType, NodeIndex};
+use daggy_base::source::EdgeSource;
 use daggy_base::store::Store;
 use daggy_graph::graph::DiGraph;
 
-/// Lends the weights of the nodes, one at a time, by ascending index.
+/// Mutable references to the weights of the nodes, one at a time, in ascending index order.
 ///
 /// A lending cursor, not an `Iterator`: each reference must end before the next call. Use it as
 /// `while let Some(weight) = weights.next()`.
@@ -22,13 +23,13 @@ pub struct NodeWeightsMut<
     N: Drop,
     E: Drop,
     Ix: IndexType = DefaultIx,
-    S: Store<Ix, NodeWeight = N, EdgeWeight = E> = DiGraph<N, E, Ix>,
+    S: EdgeSource<Ix, NodeWeight = N, EdgeWeight = E> = DiGraph<N, E, Ix>,
 > {
     dag: &'a mut Acyclic<N, E, Ix, S>,
     index: usize,
 }
 
-/// Lends the weights of the edges, one at a time, by ascending index.
+/// Mutable references to the weights of the edges, one at a time, in ascending index order.
 ///
 /// A lending cursor, not an `Iterator`: each reference must end before the next call. Use it as
 /// `while let Some(weight) = weights.next()`.
@@ -38,7 +39,7 @@ pub struct EdgeWeightsMut<
     N: Drop,
     E: Drop,
     Ix: IndexType = DefaultIx,
-    S: Store<Ix, NodeWeight = N, EdgeWeight = E> = DiGraph<N, E, Ix>,
+    S: EdgeSource<Ix, NodeWeight = N, EdgeWeight = E> = DiGraph<N, E, Ix>,
 > {
     dag: &'a mut Acyclic<N, E, Ix, S>,
     index: usize,
@@ -48,7 +49,21 @@ impl<N: Drop, E: Drop, Ix: IndexType, S> Acyclic<N, E, Ix, S>
 where
     S: Store<Ix, NodeWeight = N, EdgeWeight = E>,
 {
-    /// A cursor over mutable references to the weights of the nodes, by ascending index.
+    /// A cursor over mutable references to the weights of the nodes, in ascending index order.
+    ///
+    /// # Examples
+    ///
+    /// ```
+    /// let mut dag: Dag<u32, ()> = Dag::new(rt.alloc());
+    /// let one = dag.add_node(1)?;
+    /// let two = dag.add_node(2)?;
+    /// let mut weights = dag.node_weights_mut();
+    /// while let Some(weight) = weights.next() {
+    ///     *weight *= 10;
+    /// }
+    /// assert!(rt; dag.node_weight(one) == Some(&10));
+    /// assert!(rt; dag.node_weight(two) == Some(&20));
+    /// ```
     #[inline]
     pub fn node_weights_mut(&mut self) -> NodeWeightsMut<'_, N, E, Ix, S>
         ensures same_reference { result.dag.ghost_name ≡ self.entry.ghost_name }
@@ -61,7 +76,7 @@ where
         }
     }
 
-    /// A cursor over mutable references to the weights of the edges, by ascending index.
+    /// A cursor over mutable references to the weights of the edges, in ascending index order.
     #[inline]
     pub fn edge_weights_mut(&mut self) -> EdgeWeightsMut<'_, N, E, Ix, S>
         ensures same_reference { result.dag.ghost_name ≡ self.entry.ghost_name }
@@ -102,7 +117,7 @@ where
         let slots = self.guarded.store.edge_slots();
         let mut i = from;
         'along: while i < slots {
-            if self.guarded.store.contains_edge(EdgeIndex::new(i)) {
+            if self.guarded.store.contains_edge_index(EdgeIndex::new(i)) {
                 return i;
             }
             i += 1;
@@ -116,10 +131,14 @@ where
     S: Store<Ix, NodeWeight = N, EdgeWeight = E>,
 {
     /// The weight of the next node, or `None` if there is none left.
+    ///
+    /// # Complexity
+    ///
+    /// O(1), plus the vacant slots that are skipped: O(node slots) for the whole iteration.
     #[inline]
     pub fn next(&mut self) -> Option<&mut N>
-        ensures* writes_back { sem 𝓛 (nodes_lend_next N.row E.row Ix.row S.row Ix.IndexType S.Store
-            self.entry result) }
+        ensures* writes_back { sem 𝓛 (nodes_lend_next N.row E.row Ix.row S.row Ix.IndexType S.EdgeSource
+            S.KIND self.entry result) }
         ensures value { option_copied_mut result ≡ weight_at self.old.dag.now.graph
             (next_slot S.KIND self.old.dag.now.graph.nodes self.old.index) }
     {
@@ -139,10 +158,14 @@ where
     S: Store<Ix, NodeWeight = N, EdgeWeight = E>,
 {
     /// The weight of the next edge, or `None` if there is none left.
+    ///
+    /// # Complexity
+    ///
+    /// O(1), plus the vacant slots that are skipped: O(edge slots) for the whole iteration.
     #[inline]
     pub fn next(&mut self) -> Option<&mut E>
-        ensures* writes_back { sem 𝓛 (edges_lend_next N.row E.row Ix.row S.row Ix.IndexType S.Store
-            self.entry result) }
+        ensures* writes_back { sem 𝓛 (edges_lend_next N.row E.row Ix.row S.row Ix.IndexType S.EdgeSource
+            S.KIND self.entry result) }
         ensures value { option_copied_mut result ≡ edge_weight_at self.old.dag.now.graph
             (next_slot S.KIND self.old.dag.now.graph.edges self.old.index) }
     {

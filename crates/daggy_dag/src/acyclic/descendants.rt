@@ -4,17 +4,19 @@ ghost use Rattle.daggy_base.specs.Graph.{edge_count as edge_count_of};
 ghost use Rattle.daggy_base.specs.Ordered.{edges_from};
 ghost use Rattle.daggy_base.specs.Reduction.{IsBelow};
 ghost use Rattle.daggy_reduction.specs.Descendants.{IsDescendantOfAny, IsAncestorOfAny, IsOrderOfPart};
+ghost use Rattle.daggy_reduction.specs.Descendants.{edges_into};
 
 use crate::acyclic::Acyclic;
 use daggy_base::index::{IndexType, NodeIndex};
-use daggy_base::store::Store;
+use daggy_base::read_store::ReadStore;
+use daggy_base::source::EdgeSource;
 use daggy_reduction::affected;
 use daggy_search::Reversed;
 use std::alloc::AllocError;
 
 impl<N: Drop, E: Drop, Ix: IndexType, S> Acyclic<N, E, Ix, S>
 where
-    S: Store<Ix, NodeWeight = N, EdgeWeight = E>,
+    S: ReadStore<Ix, NodeWeight = N, EdgeWeight = E>,
 {
     /// Returns `nodes` and their descendants, each once and parents before children: what to
     /// recompute after `nodes` changed, in the order to do it. Missing nodes are ignored.
@@ -57,7 +59,8 @@ where
     }
 
     /// Returns the descendants of `nodes`, each once and parents before children: the nodes to
-    /// which a path of one or more edges leads from one of `nodes`. Missing nodes have none.
+    /// which a path of one or more edges leads from one of `nodes`. Nodes that do not exist are
+    /// ignored.
     ///
     /// # Errors
     ///
@@ -88,7 +91,8 @@ where
     }
 
     /// Returns the ancestors of `nodes`, each once and parents before children: the nodes from
-    /// which a path of one or more edges leads to one of `nodes`. Missing nodes have none.
+    /// which a path of one or more edges leads to one of `nodes`. Nodes that do not exist are
+    /// ignored.
     ///
     /// # Errors
     ///
@@ -100,16 +104,26 @@ where
     pub fn ancestors(&mut self, nodes: &[NodeIndex<Ix>]) -> Result<Vec<NodeIndex<Ix>>, AllocError>
         ensures found { IfOk result (λ found. IsOrderOfPart self.old.graph
             (IsAncestorOfAny self.old.graph (map Ix.number nodes.now)) (map Ix.number found.items)) }
-        ensures same { self.new ≡ self.old }
+        ensures same { self.new.graph ≡ self.old.graph }
+        ensures looked { self.old.looks ≤ self.new.looks }
+        ensures counted { self.new.looks ≤ self.old.looks
+            + (edges_into self.old.graph (map Ix.number nodes.now)
+            + edge_count_of self.old.graph) }
+        ensures visited { IfOk result (λ found. self.new.looks ≤ self.old.looks
+            + (edges_into self.old.graph (map Ix.number nodes.now)
+            + edges_into self.old.graph (map Ix.number found.items))) }
     {
         self.guarded.invariant();
         let mut reversed = Reversed::new(&self.guarded.store);
-        affected::descendants(
+        let found = affected::descendants(
             self.guarded.scratch.allocator(),
             &mut reversed,
             &mut self.guarded.order,
             nodes,
             &mut self.guarded.scratch,
-        )
+        );
+        let looks = reversed.into_looks();
+        self.guarded.store.count_looks(&looks);
+        found
     }
 }

@@ -5,26 +5,26 @@ ghost use Rattle.daggy_base.specs.Externals.{is_external as is_external_of, exte
 
 use crate::acyclic::Acyclic;
 use daggy_base::index::{Direction, EdgeIndex, IndexType, NodeIndex};
-use daggy_base::store::Store;
+use daggy_base::read_store::ReadStore;
 use std::alloc::AllocError;
 use std::fmt;
 use std::iter::FusedIterator;
 use std::marker::{Model, PhantomData};
 
-/// The nodes that have no edge in one direction, by ascending index.
+/// The nodes that have no edge in one direction, in ascending index order.
 ///
 /// # Complexity
 ///
-/// O(node bound) in total.
+/// O(node bound) for the whole iteration.
 #[derive(Drop)]
-pub struct Externals<'a, Ix: IndexType, S: Store<Ix>> {
+pub struct Externals<'a, Ix: IndexType, S: ReadStore<Ix>> {
     store: &'a S,
     direction: Direction,
     next: usize,
     index: PhantomData<Ix>,
 }
 
-impl<'a, Ix: IndexType, S: Store<Ix>> Model for Externals<'a, Ix, S> {
+impl<'a, Ix: IndexType, S: ReadStore<Ix>> Model for Externals<'a, Ix, S> {
     ghost use Rattle.std.specs.Prelude.{ℕ, List};
     ghost use Rattle.daggy_base.specs.Externals.{externals_from};
 
@@ -35,14 +35,25 @@ impl<'a, Ix: IndexType, S: Store<Ix>> Model for Externals<'a, Ix, S> {
 
 impl<N: Drop, E: Drop, Ix: IndexType, S> Acyclic<N, E, Ix, S>
 where
-    S: Store<Ix, NodeWeight = N, EdgeWeight = E>,
+    S: ReadStore<Ix, NodeWeight = N, EdgeWeight = E>,
 {
     /// The nodes that no edge enters (`Incoming`), which are the roots, or those that no edge
-    /// leaves (`Outgoing`), by ascending index.
+    /// leaves (`Outgoing`), in ascending index order.
     ///
     /// # Complexity
     ///
-    /// O(node bound) in total.
+    /// O(node bound) for the whole iteration.
+    ///
+    /// # Examples
+    ///
+    /// ```
+    /// let mut dag: Dag<&'static str, u32> = Dag::new(rt.alloc());
+    /// let sow = dag.add_node("sow")?;
+    /// let (_, reap) = dag.add_child(sow, 90, "reap")?;
+    /// // The nodes without parents, and those without children.
+    /// assert!(rt; dag.externals(Direction::Incoming).next() == Some(sow));
+    /// assert!(rt; dag.externals(Direction::Outgoing).next() == Some(reap));
+    /// ```
     #[inline]
     pub fn externals(&self, dir: Direction) -> Externals<'_, Ix, S>
         ensures rest { result ≡ externals_from dir self.now.graph 0 }
@@ -61,14 +72,14 @@ where
 
 // Whether a node exists that has no edge in that direction.
 #[inline]
-fn is_external<Ix: IndexType, S: Store<Ix>>(store: &S, n: NodeIndex<Ix>, dir: Direction) -> bool
+fn is_external<Ix: IndexType, S: ReadStore<Ix>>(store: &S, n: NodeIndex<Ix>, dir: Direction) -> bool
     ensures { result ≡ is_external_of dir (S.graph store.now) (Ix.number n) }
 {
     let first = store.first_edge(n, dir);
     store.contains_node(n) && first.index() == EdgeIndex::<Ix>::end().index()
 }
 
-impl<'a, Ix: IndexType, S: Store<Ix>> Iterator for Externals<'a, Ix, S> {
+impl<'a, Ix: IndexType, S: ReadStore<Ix>> Iterator for Externals<'a, Ix, S> {
     type Item = NodeIndex<Ix>;
 
     ghost next_gives = { YieldsFirstBy Ix.number (λ rest. rest) };
@@ -89,9 +100,9 @@ impl<'a, Ix: IndexType, S: Store<Ix>> Iterator for Externals<'a, Ix, S> {
     }
 }
 
-impl<'a, Ix: IndexType, S: Store<Ix>> FusedIterator for Externals<'a, Ix, S> {}
+impl<'a, Ix: IndexType, S: ReadStore<Ix>> FusedIterator for Externals<'a, Ix, S> {}
 
-impl<'a, Ix: IndexType, S: Store<Ix>> Clone for Externals<'a, Ix, S> {
+impl<'a, Ix: IndexType, S: ReadStore<Ix>> Clone for Externals<'a, Ix, S> {
     ghost is_clone = { λ a b. a ≡ b };
 
     fn clone(&self) -> Result<Self, AllocError> {
@@ -104,7 +115,7 @@ impl<'a, Ix: IndexType, S: Store<Ix>> Clone for Externals<'a, Ix, S> {
     }
 }
 
-impl<'a, Ix: IndexType, S: Store<Ix>> fmt::Debug for Externals<'a, Ix, S> {
+impl<'a, Ix: IndexType, S: ReadStore<Ix>> fmt::Debug for Externals<'a, Ix, S> {
     fn fmt<W: fmt::Write>(&self, f: &mut fmt::Formatter<W>) -> fmt::Result {
         f.debug_struct("Externals").finish_non_exhaustive()
     }

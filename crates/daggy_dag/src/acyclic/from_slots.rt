@@ -20,11 +20,17 @@ impl<N: Drop, E: Drop, Ix: IndexType, S> Acyclic<N, E, Ix, S>
 where
     S: Store<Ix, NodeWeight = N, EdgeWeight = E>,
 {
-    /// A dag of explicit slots: `nodes[i]` is the weight of node `i`, and `edges[i]` the endpoints
-    /// and the weight of edge `i`; `None` leaves the slot vacant. A [`Dag`](crate::acyclic::Dag)
-    /// has no vacant slot.
+    /// Builds a dag from explicit slots: `nodes[i]` is the weight of node `i`, and `edges[i]` the
+    /// endpoints and the weight of edge `i`; `None` leaves the slot vacant. A
+    /// [`Dag`](crate::acyclic::Dag) has no vacant slot.
     ///
     /// Each list is in descending index order, and the highest vacant slot is reused first.
+    ///
+    /// # Requires
+    ///
+    /// - `makes_graph`: The index type has an index for each slot, and both ends of each edge are
+    ///   nodes: slots that are not `None`.
+    /// - `compact`: In a `Dag` no slot is `None`.
     ///
     /// # Errors
     ///
@@ -34,6 +40,18 @@ where
     /// # Complexity
     ///
     /// O(slots).
+    ///
+    /// # Examples
+    ///
+    /// ```
+    /// let sow = NodeIndex::new(0);
+    /// let reap = NodeIndex::new(2);
+    /// let nodes = Vec::from_array(rt.alloc(), [Some("sow"), None, Some("reap")])?;
+    /// let edges = Vec::from_array(rt.alloc(), [Some((sow, reap, 90))])?;
+    /// let dag: StableDag<&'static str, u32> = StableDag::from_slots(rt.alloc(), nodes, edges)?;
+    /// assert!(rt; dag.contains_edge(sow, reap));
+    /// assert!(rt; !dag.contains_node(NodeIndex::new(1)));
+    /// ```
     pub fn from_slots(
         alloc: Global,
         nodes: Vec<Option<N>>,
@@ -63,8 +81,13 @@ where
         }
     }
 
-    /// Permutes the lists: for each existing node, by ascending index, `orders` has its out list
-    /// and its in list in the desired order. Nothing else changes.
+    /// Permutes the lists: for each existing node, in ascending index order, `orders` has its out
+    /// list and its in list in the desired order. Nothing else changes.
+    ///
+    /// # Requires
+    ///
+    /// - `orders` has one pair for each node that exists, in ascending index order, and each pair
+    ///   permutes the out list and the in list of its node.
     ///
     /// # Complexity
     ///

@@ -5,8 +5,8 @@ ghost use Rattle.daggy_base.specs.Ordered.{IsOrderOf};
 
 use crate::acyclic::{Acyclic, Dag, StableDag};
 use daggy_base::index::IndexType;
+use daggy_base::read_store::ReadStore;
 use daggy_base::source::EdgeSource;
-use daggy_base::store::Store;
 use daggy_graph::graph::DiGraph;
 use daggy_order::order::Order;
 use daggy_stable::stable_graph::StableDiGraph;
@@ -14,9 +14,11 @@ use std::alloc::Global;
 
 impl<N: Drop, E: Drop, Ix: IndexType, S> Acyclic<N, E, Ix, S>
 where
-    S: Store<Ix, NodeWeight = N, EdgeWeight = E>,
+    S: ReadStore<Ix, NodeWeight = N, EdgeWeight = E>,
 {
-    /// The underlying graph.
+    /// A shared reference to the graph inside. Its own methods, the traits of `visit`, and the
+    /// searches and traversals of any graph can read it; it cannot be changed through this
+    /// reference.
     #[inline]
     pub fn graph(&self) -> &S
         ensures graph { S.graph result.now ≡ self.now.graph }
@@ -33,7 +35,7 @@ where
         self.guarded.scratch.allocator()
     }
 
-    /// Unwraps the graph, without copying. It is no longer kept acyclic.
+    /// Returns the graph inside, without copying it. It can then be given cycles.
     #[inline]
     pub fn into_graph(self) -> S
         ensures graph { S.graph result ≡ self.graph }
@@ -45,7 +47,7 @@ where
 }
 
 impl<N: Drop, E: Drop, Ix: IndexType> Acyclic<N, E, Ix, DiGraph<N, E, Ix>> {
-    /// Unwraps the graph, without copying, and with a topological order of its nodes.
+    /// Returns the graph inside, without copying it, and a topological order of its nodes.
     #[inline]
     pub fn into_parts(self) -> (DiGraph<N, E, Ix>, Order<Ix>)
         ensures graph { result.0.graph ≡ self.graph }

@@ -24,15 +24,39 @@ where
     ///
     /// Edges are added one at a time, and the dag's order is updated after each, as in
     /// [`add_edge`](Acyclic::add_edge); the update itself never fails. After the first edge that
-    /// closes a cycle the order is no longer updated. If the batch is large compared with the dag
-    /// and conflicts with its order, the nodes are sorted once at the end instead, in O(nodes +
-    /// edges).
+    /// closes a cycle the order is no longer updated.
+    ///
+    /// If an edge needs a search and the batch is large compared with the dag, or searches have
+    /// read as many edges as the dag had nodes or edges before, the nodes are sorted once at the
+    /// end instead, by Kahn's algorithm (1962), or by a depth-first search if memory for that is
+    /// refused.
+    ///
+    /// # Requires
+    ///
+    /// - `items` yields finitely many items, as a list or a bounded range does.
     ///
     /// # Errors
     ///
     /// Stops at the first invalid item (missing endpoint, no index left, out of memory) and
     /// consumes no further items. Otherwise returns `WouldCycle` if all edges together close a
     /// cycle. The error holds every weight consumed so far, and the dag is unchanged.
+    ///
+    /// # Complexity
+    ///
+    /// A batch reads O(nodes + edges) edges, whatever its own edges are. An edge that agrees with
+    /// the dag's order takes amortized O(1).
+    ///
+    /// # Examples
+    ///
+    /// ```
+    /// let mut dag: Dag<&'static str, u32> = Dag::new(rt.alloc());
+    /// let sow = dag.add_node("sow")?;
+    /// let reap = dag.add_node("reap")?;
+    /// let circle = Vec::from_array(rt.alloc(), [(sow, reap, 90), (reap, sow, 5)])?;
+    /// assert!(rt; dag.add_edges(circle).is_err());
+    /// // All of them or none.
+    /// assert!(rt; dag.edge_count() == 0);
+    /// ```
     pub fn add_edges<I: IntoIterator<Item = (NodeIndex<Ix>, NodeIndex<Ix>, E)>>(
         &mut self,
         items: I,
@@ -52,16 +76,28 @@ where
         self.guarded.add_edges(items)
     }
 
-    /// Adds the edges that `items` yields, one by one, first adding default nodes until the
-    /// endpoints of each exist. It stops at the first edge that fails, and keeps what it added
-    /// before.
+    /// Adds the edges that `items` yields, one by one, and before each edge as many nodes of the
+    /// default weight as its endpoints need. It stops at the first edge that fails, and keeps what
+    /// it added before.
     ///
     /// An item is a pair of nodes, for an edge of the default weight, or a pair with a weight.
     ///
+    /// # Requires
+    ///
+    /// - `items` yields finitely many items, as a list or a bounded range does.
+    ///
     /// # Errors
     ///
-    /// The error holds the weight of the edge that failed. Nodes that were added for that edge stay
-    /// too.
+    /// Each error holds the weight of the edge that failed: `EdgeError::Full` if an endpoint is
+    /// `end` or the index type has no index left for the edge, `EdgeError::NodeMemory` if an
+    /// allocation for a missing node fails, `EdgeError::BadEndpoint` if an endpoint is a vacant
+    /// slot, `EdgeError::WouldCycle` if the edge would close a cycle, and `EdgeError::Memory` if an
+    /// allocation for the edge fails. Nodes that were added for that edge stay, too.
+    ///
+    /// # Complexity
+    ///
+    /// The cost of [`add_node`](Acyclic::add_node) for each node, and of
+    /// [`add_edge`](Acyclic::add_edge) for each edge.
     pub fn extend_with_edges<
         T: IntoWeightedEdge<E, NodeId = NodeIndex<Ix>>,
         I: IntoIterator<Item = T>,
@@ -84,8 +120,38 @@ where
         self.guarded.extend_with_edges(items)
     }
 
-    /// A dag of the edges that `items` yields, as [`extend_with_edges`](Acyclic::extend_with_edges)
-    /// makes it of an empty one. If an edge fails, what was made is dropped.
+    /// A dag of the edges that `items` yields, made by
+    /// [`extend_with_edges`](Acyclic::extend_with_edges) from an empty one: nodes that are missing
+    /// get the default weight.
+    ///
+    /// # Requires
+    ///
+    /// - `items` yields finitely many items, as a list or a bounded range does.
+    ///
+    /// # Errors
+    ///
+    /// Returns the error of the first edge that fails, with the weight of that edge:
+    /// `EdgeError::Full` if an endpoint is `end` or the index type has no index left for the edge,
+    /// `EdgeError::NodeMemory` if an allocation for a missing node fails, `EdgeError::WouldCycle`
+    /// if the edge would close a cycle, and `EdgeError::Memory` if an allocation for the edge
+    /// fails. What was made before is dropped, so to keep the other weights use
+    /// [`add_edges`](Acyclic::add_edges).
+    ///
+    /// # Complexity
+    ///
+    /// The same as [`extend_with_edges`](Acyclic::extend_with_edges).
+    ///
+    /// # Examples
+    ///
+    /// ```
+    /// let sow = NodeIndex::new(0);
+    /// let reap = NodeIndex::new(1);
+    /// let edges = Vec::from_array(rt.alloc(), [(sow, reap, 90)])?;
+    /// let dag: Dag<u32, u32> = Dag::from_edges(rt.alloc(), edges)?;
+    /// // The nodes were missing, so they have the default weight.
+    /// assert!(rt; dag.node_count() == 2);
+    /// assert!(rt; dag.node_weight(reap) == Some(&0));
+    /// ```
     pub fn from_edges<T: IntoWeightedEdge<E, NodeId = NodeIndex<Ix>>, I: IntoIterator<Item = T>>(
         alloc: Global,
         items: I,
@@ -110,13 +176,37 @@ where
         }
     }
 
-    /// A dag of the nodes and edges that `items` yields. An edge between two nodes that are joined
-    /// already replaces the weight of the edge that [`find_edge`](Acyclic::find_edge) returns.
+    /// A dag of the nodes and edges that `items` yields. An edge between two nodes that are already
+    /// adjacent replaces the weight of the edge that [`find_edge`](Acyclic::find_edge) returns.
+    ///
+    /// # Requires
+    ///
+    /// - `items` yields finitely many items, as a list or a bounded range does.
     ///
     /// # Errors
     ///
     /// Stops at the first element that fails: the error holds its weight, and what was made before
     /// is dropped.
+    ///
+    /// # Complexity
+    ///
+    /// The cost of [`add_node`](Acyclic::add_node) for each node, and of
+    /// [`update_edge`](Acyclic::update_edge) for each edge.
+    ///
+    /// # Examples
+    ///
+    /// ```
+    /// let mut elements = Vec::new(rt.alloc());
+    /// elements.push(Element::Node { weight: 1 })?;
+    /// elements.push(Element::Node { weight: 2 })?;
+    /// elements.push(Element::Edge {
+    ///     source: 0,
+    ///     target: 1,
+    ///     weight: 90,
+    /// })?;
+    /// let dag: Dag<u32, u32> = Dag::from_elements(rt.alloc(), elements)?;
+    /// assert!(rt; dag.contains_edge(NodeIndex::new(0), NodeIndex::new(1)));
+    /// ```
     pub fn from_elements<I: IntoIterator<Item = Element<N, E>>>(
         alloc: Global,
         items: I,

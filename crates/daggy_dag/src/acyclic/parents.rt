@@ -1,5 +1,5 @@
 //! The edges that enter a node, replaced all at once.
-ghost use Rattle.std.specs.Prelude.{◌≡◌, ◌≢◌, ℕ, ◌+◌, ◌*◌, ◌<◌, ◌≤◌, ◌↔◌, ◌⊎◌, Err, IsTrue, map, reverse};
+ghost use Rattle.std.specs.Prelude.{◌≡◌, ◌≢◌, ℕ, ◌+◌, ◌<◌, ◌≤◌, ◌↔◌, ◌⊎◌, Err, IsTrue, map, reverse};
 ghost use Rattle.std.specs.Prelude.{vec_len, IfOk, OnOk, IfErr, OnErr, List, Contains};
 ghost use Rattle.std.specs.List.{All};
 ghost use Rattle.std.specs.List.Sorted.{IsPermutation, IsNonDecreasingBy};
@@ -16,6 +16,7 @@ ghost use Rattle.daggy_redundant.specs.Comparison.{IsAscending};
 use crate::acyclic::Acyclic;
 use daggy_base::error::{ParentsError, WouldCycle};
 use daggy_base::index::{Direction, EdgeIndex, IndexType, NodeIndex};
+use daggy_base::read_store::ReadStore;
 use daggy_base::store::Store;
 use daggy_guard::parents::{add_parents, make_way_for_parents};
 use daggy_reduction::reduce::remove_edges;
@@ -23,7 +24,7 @@ use daggy_visit::walk;
 use std::alloc::{AllocError, Global};
 
 // The edges that enter a node.
-fn entering_edges<Ix: IndexType, S: Store<Ix>>(
+fn entering_edges<Ix: IndexType, S: ReadStore<Ix>>(
     alloc: Global,
     store: &S,
     n: NodeIndex<Ix>,
@@ -48,7 +49,7 @@ fn sort_by_index<Ix: IndexType>(edges: &mut Vec<EdgeIndex<Ix>>)
 }
 
 // The edges that enter a node, by ascending index.
-fn ascending_entering_edges<Ix: IndexType, S: Store<Ix>>(
+fn ascending_entering_edges<Ix: IndexType, S: ReadStore<Ix>>(
     alloc: Global,
     store: &S,
     n: NodeIndex<Ix>,
@@ -64,7 +65,7 @@ fn ascending_entering_edges<Ix: IndexType, S: Store<Ix>>(
 }
 
 // How many indices are left for edges.
-fn edge_indices_left<Ix: IndexType, S: Store<Ix>>(store: &S) -> usize
+fn edge_indices_left<Ix: IndexType, S: ReadStore<Ix>>(store: &S) -> usize
     ensures { result + edge_count_of (S.graph store.now) ≡ Ix.greatest }
 {
     store.invariant();
@@ -115,6 +116,10 @@ where
     S: Store<Ix, NodeWeight = N, EdgeWeight = E>,
 {
     /// Whether the parent of each item exists, as [`set_parents`](Acyclic::set_parents) requires.
+    ///
+    /// # Complexity
+    ///
+    /// O(items).
     pub fn contains_parents(&self, items: &[(NodeIndex<Ix>, E)]) -> bool
         ensures { IsTrue result ↔ All (λ x. HasNode self.now.graph (Ix.number x.0)) items.now }
     {
@@ -133,16 +138,23 @@ where
     ///
     /// A parent may occur more than once. Without items, `n` has no parents afterwards.
     ///
+    /// # Requires
+    ///
+    /// - `node`: `n` is a node of the dag. Test: `contains_node(n)`.
+    /// - `parents`: The parent of each item is a node of the dag. Test: `contains_parents(&items)`.
+    ///
     /// # Errors
     ///
     /// Each error holds the items, and the dag is unchanged. `ParentsError::WouldCycle` if `n`
     /// reaches one of the parents, or is one of them; this is decided first, and does not allocate.
-    /// Otherwise `ParentsError::Full` if there are too few indices for the new edges beside all
-    /// old ones, and `ParentsError::Memory` if an allocation fails.
+    /// Otherwise `ParentsError::Full` if there are too few indices for the new edges in addition to
+    /// all old ones, and `ParentsError::Memory` if an allocation fails.
     ///
     /// # Complexity
     ///
-    /// As `add_edge` for each item, O(k log k) for the k edges that entered `n`, and their removal.
+    /// One search like that of [`add_edge`](Acyclic::add_edge), however many items there are, and
+    /// O(1) for each item. For the k edges that entered `n`: O(k log k), and their removals, each of
+    /// which passes the new edges in the list of `n`.
     ///
     /// # Examples
     ///
@@ -184,7 +196,7 @@ where
         ensures acyclic { IsAcyclic self.new.graph }
         ensures looked { self.old.looks ≤ self.new.looks }
         ensures counted { self.new.looks
-            ≤ self.old.looks + vec_len items * edge_count_of self.old.graph }
+            ≤ self.old.looks + edge_count_of self.old.graph }
     {
         let guarded = &mut self.guarded;
         if !make_way_for_parents(

@@ -2,41 +2,55 @@
 ghost use Rattle.std.specs.Prelude.{◌≡◌, ◌+◌, ◌≤◌, ◌↔◌, IsTrue, Ok, None, map, IfOk, IfSome};
 ghost use Rattle.daggy_order.specs.Paths.{IsShortestPath};
 ghost use Rattle.daggy_base.specs.Graph.{edge_count as edge_count_of};
-ghost use Rattle.daggy_base.specs.Path.{AreJoined, IsPath, Reaches};
-ghost use Rattle.daggy_dag.specs.EdgePaths.{AreFoundAlong, IsShortestEdgePath};
+ghost use Rattle.daggy_base.specs.Path.{AreJoined, Reaches};
+ghost use Rattle.daggy_paths.specs.EdgePaths.{IsShortestEdgePath};
 
 use crate::acyclic::Acyclic;
 use daggy_base::index::{EdgeIndex, IndexType, NodeIndex};
-use daggy_base::store::Store;
-use std::alloc::{AllocError, Global};
-
-// The edges along a path.
-fn edges_along<Ix: IndexType, S: Store<Ix>>(
-    alloc: Global,
-    store: &S,
-    nodes: &[NodeIndex<Ix>],
-) -> Result<Vec<EdgeIndex<Ix>>, AllocError>
-    requires { IsPath (S.graph store.now) (map Ix.number nodes.now) }
-    ensures { IfOk result (λ edges. AreFoundAlong (S.graph store.now) (map Ix.number nodes.now)
-        (map Ix.number edges.items)) }
-{
-    store.invariant();
-    let mut edges = Vec::new(alloc);
-    let mut at = 0;
-    'nodes: while at + 1 < nodes.len() {
-        // There is one, since each node is joined to the next.
-        if let Some(e) = store.find_edge(nodes[at], nodes[at + 1]) {
-            edges.push(e)?;
-        }
-        at += 1;
-    }
-    Ok(edges)
-}
+use daggy_base::read_store::ReadStore;
+use daggy_paths::{Paths, edges_along};
+use std::alloc::AllocError;
 
 impl<N: Drop, E: Drop, Ix: IndexType, S> Acyclic<N, E, Ix, S>
 where
-    S: Store<Ix, NodeWeight = N, EdgeWeight = E>,
+    S: ReadStore<Ix, NodeWeight = N, EdgeWeight = E>,
 {
+    /// Borrows the dag for questions about its paths, with search memory of its own. So the dag can
+    /// be read between two questions, as in a loop over the neighbors of a node.
+    ///
+    /// [`Paths`] has all questions that take `&mut self` here: [`reaches`](Acyclic::reaches),
+    /// [`path`](Acyclic::path), [`descendants`](Acyclic::descendants) and so on.
+    ///
+    /// # Errors
+    ///
+    /// Returns `AllocError` if an allocation fails.
+    ///
+    /// # Complexity
+    ///
+    /// O(nodes), so make one for many questions.
+    ///
+    /// # Examples
+    ///
+    /// ```
+    /// let mut dag: Dag<&'static str, u32> = Dag::new(rt.alloc());
+    /// let sow = dag.add_node("sow")?;
+    /// let (_, hoe) = dag.add_child(sow, 30, "hoe")?;
+    /// let (_, reap) = dag.add_child(hoe, 60, "reap")?;
+    /// let mut paths = dag.paths()?;
+    /// for n in dag.neighbors(sow) {
+    ///     assert!(rt; paths.reaches(n, reap));
+    /// }
+    /// ```
+    pub fn paths(&self) -> Result<Paths<'_, Ix, S>, AllocError>
+        ensures { IfOk result (λ paths. paths ≡ record { graph = self.now.graph; looks = 0 }) }
+    {
+        Paths::new(
+            self.guarded.scratch.allocator(),
+            &self.guarded.store,
+            &self.guarded.order,
+        )
+    }
+
     /// Whether a path leads from `a` to `b`. A single node is a path, so an existing node reaches
     /// itself; a missing node reaches nothing.
     ///
@@ -44,9 +58,9 @@ where
     ///
     /// # Complexity
     ///
-    /// O(1) if `b` precedes `a` in the dag's order. Otherwise a search from `a` that stays before
-    /// `b` in the order. The first search after nodes were added also takes O(node bound). Does not
-    /// allocate.
+    /// O(1) if `b` precedes `a` in the dag's order. Otherwise a search of the nodes reachable from
+    /// `a` that precede `b` in the order. The first search after nodes were added also takes O(node
+    /// bound). Does not allocate.
     ///
     /// # Examples
     ///
@@ -75,7 +89,7 @@ where
     ///
     /// # Complexity
     ///
-    /// As [`reaches`](Acyclic::reaches) from `b` to `a`.
+    /// The same as [`reaches`](Acyclic::reaches) from `b` to `a`.
     pub fn would_close_cycle(&mut self, a: NodeIndex<Ix>, b: NodeIndex<Ix>) -> bool
         ensures decided { IsTrue result ↔ Reaches self.old.graph (Ix.number b) (Ix.number a) }
         ensures same { self.new.graph ≡ self.old.graph }
@@ -99,7 +113,7 @@ where
     ///
     /// # Complexity
     ///
-    /// As [`reaches`](Acyclic::reaches), and the length of the path.
+    /// The same as [`reaches`](Acyclic::reaches), plus O(length of the path).
     ///
     /// # Examples
     ///
@@ -134,8 +148,8 @@ where
     /// Returns the edges along a shortest path from `a` to `b`, in order, or `None` if no path leads
     /// from `a` to `b`. From an existing node to itself there are none.
     ///
-    /// Between each node of the path and the next it is the edge that
-    /// [`find_edge`](Acyclic::find_edge) returns, the newest of parallel ones.
+    /// From each node of the path to the next it has the edge that
+    /// [`find_edge`](Acyclic::find_edge) returns, the newest of parallel edges.
     ///
     /// # Errors
     ///
@@ -143,7 +157,7 @@ where
     ///
     /// # Complexity
     ///
-    /// As [`path`](Acyclic::path), and `find_edge` for each edge.
+    /// The same as [`path`](Acyclic::path), plus the cost of `find_edge` for each edge.
     ///
     /// # Examples
     ///
@@ -182,7 +196,7 @@ where
     ///
     /// # Complexity
     ///
-    /// As [`find_edge`](Acyclic::find_edge).
+    /// The same as [`find_edge`](Acyclic::find_edge).
     pub fn contains_edge(&self, a: NodeIndex<Ix>, b: NodeIndex<Ix>) -> bool
         ensures { IsTrue result ↔ AreJoined self.now.graph (Ix.number a) (Ix.number b) }
     {

@@ -1,5 +1,6 @@
 //! The transitive reduction and the transitive closure.
-ghost use Rattle.std.specs.Prelude.{◌≡◌, ℕ, ◌+◌, ◌*◌, ◌≤◌, ◌↔◌, map, IfOk, OnOk, OnErr};
+ghost use Rattle.std.specs.Prelude.{◌≡◌, ℕ, ◌+◌, ◌*◌, ◌<◌, ◌≤◌, ◌↔◌, map, Contains, IfOk};
+ghost use Rattle.std.specs.Prelude.{OnOk, OnErr};
 ghost use Rattle.daggy_base.specs.Graph.{node_count as node_count_of, edge_count as edge_count_of};
 ghost use Rattle.daggy_base.specs.Path.{IsAcyclic};
 ghost use Rattle.daggy_base.specs.Removal.{KeepsIndices};
@@ -9,13 +10,28 @@ ghost use Rattle.daggy_visit.specs.Visit.{HasPair};
 ghost use Rattle.daggy_reduction.specs.Descendants.{IsDescendantOf};
 ghost use Rattle.daggy_redundant.specs.Comparison.{HaveSameReachability, JoinsCovers, JoinsOthers};
 ghost use Rattle.daggy_redundant.specs.Comparison.{IsLeast, HasNoneRedundant, IsCanonical};
+ghost use Rattle.daggy_dag.specs.WholeReduction.{IsWholeReduction, JoinsCoversOnly};
 
 use crate::acyclic::Acyclic;
 use daggy_base::index::{IndexType, NodeIndex};
 use daggy_base::store::Store;
 use daggy_reduction::{reduce, transitive_closure};
-use daggy_visit::visit::AdjMatrix;
-use std::alloc::AllocError;
+use daggy_visit::visit::{AdjMatrix, NodeIndexable};
+use std::alloc::{AllocError, Global};
+
+// The nodes below a number.
+fn nodes_below<Ix: IndexType>(alloc: Global, count: usize) -> Result<Vec<NodeIndex<Ix>>, AllocError>
+    requires { count ≤ Ix.greatest }
+    ensures { IfOk result (λ nodes. (n : ℕ) → n < count → Contains (map Ix.number nodes.items) n) }
+{
+    let mut nodes = Vec::new(alloc);
+    let mut n = 0;
+    'nodes: while n < count {
+        nodes.push(NodeIndex::new(n))?;
+        n += 1;
+    }
+    Ok(nodes)
+}
 
 impl<N: Drop, E: Drop, Ix: IndexType, S> Acyclic<N, E, Ix, S>
 where
@@ -23,11 +39,12 @@ where
 {
     /// Removes the edges that are redundant below `roots`: those whose parent a root reaches, and
     /// whose parent reaches their child by another path of two or more edges. Reachability is
-    /// unchanged.
+    /// unchanged. From roots that reach all nodes it is the transitive reduction of the dag (Aho,
+    /// Garey and Ullman 1972), but for parallel edges.
     ///
-    /// A parallel edge is not such a path, so either all edges from one node to another go, or all
-    /// stay. Missing roots are ignored. The edges are removed from the highest index down, each as
-    /// by [`remove_edge`](Acyclic::remove_edge), and their weights are dropped.
+    /// A parallel edge is not such a path, so the edges from one node to another are either all
+    /// removed or all kept. Missing roots are ignored. The edges are removed from the highest index
+    /// down, each as by [`remove_edge`](Acyclic::remove_edge), and their weights are dropped.
     ///
     /// # Errors
     ///
@@ -36,9 +53,9 @@ where
     /// # Complexity
     ///
     /// One search for each node that the roots reach, which stays before the node's last child in
-    /// the dag's order; or, where that is expected to look at more edges, O(nodes * edges / 512)
-    /// steps of 512 bits each, with 80 bytes of memory for each node and, over `u32`, 12 for each
-    /// edge, which the dag keeps. Then the removals.
+    /// the dag's order; or, where that is expected to read more edges, O(nodes * edges / 512) steps
+    /// of 512 bits each, with 80 bytes of memory for each node and, with `u32` indices, 12 bytes
+    /// for each edge; the dag keeps this memory. Then the cost of the removals.
     ///
     /// # Examples
     ///
@@ -84,8 +101,52 @@ where
         )
     }
 
-    /// Returns the pairs of nodes of which a path of one or more edges leads from the first to the
-    /// second. So no node is paired with itself.
+    /// Removes all redundant edges: those whose parent reaches their child by another path of two or
+    /// more edges. Reachability is unchanged.
+    ///
+    /// It is [`transitive_reduce`](Acyclic::transitive_reduce) from all nodes.
+    ///
+    /// # Errors
+    ///
+    /// Returns `AllocError` if an allocation fails; the dag is unchanged.
+    ///
+    /// # Complexity
+    ///
+    /// The same as [`transitive_reduce`](Acyclic::transitive_reduce).
+    ///
+    /// # Examples
+    ///
+    /// ```
+    /// let mut dag: StableDag<&'static str, u32> = StableDag::new(rt.alloc());
+    /// let sow = dag.add_node("sow")?;
+    /// let (_, hoe) = dag.add_child(sow, 30, "hoe")?;
+    /// let (_, reap) = dag.add_child(hoe, 60, "reap")?;
+    /// let days = dag.add_edge(sow, reap, 90)?;
+    /// dag.transitive_reduce_all()?;
+    /// assert!(rt; dag.edge_weight(days).is_none());
+    /// assert!(rt; dag.edge_count() == 2);
+    /// ```
+    pub fn transitive_reduce_all(&mut self) -> Result<(), AllocError>
+        ensures reduced { OnOk result (IsWholeReduction S.KIND self.old.graph self.new.graph) }
+        ensures reachability { OnOk result (HaveSameReachability self.old.graph self.new.graph) }
+        ensures covers { OnOk result (JoinsCoversOnly self.old.graph self.new.graph) }
+        ensures keeps { OnOk result (S.KIND ≡ Stable → KeepsIndices self.old.graph self.new.graph) }
+        ensures unchanged { OnErr result (self.new ≡ self.old) }
+        ensures acyclic { IsAcyclic self.new.graph }
+        ensures looked { self.old.looks ≤ self.new.looks }
+        ensures counted { self.new.looks ≤ self.old.looks
+            + (node_count_of self.old.graph + 2) * edge_count_of self.old.graph }
+    {
+        // Called for its contract, here and below: the dag is well formed and acyclic.
+        let _count = self.node_count();
+        let nodes = nodes_below(self.allocator(), self.node_bound())?;
+        let reduced = self.transitive_reduce(nodes);
+        let _count = self.node_count();
+        reduced
+    }
+
+    /// Returns the reachability matrix: the pairs of nodes such that a path of one or more edges
+    /// leads from the first to the second. So no node is paired with itself.
     ///
     /// The graph is unchanged; the call needs `&mut self` because contracts count the edges that it
     /// reads.

@@ -1,6 +1,8 @@
 //! Keeping the nodes, or the edges, that a closure chooses.
 ghost use Rattle.std.specs.Prelude.{◌≡◌};
 ghost use Rattle.daggy_base.specs.Path.{IsAcyclic};
+ghost use Rattle.daggy_base.specs.Removal.{KeepsIndices};
+ghost use Rattle.daggy_base.specs.declared.kind.Kind.TheVariants.{Stable};
 ghost use Rattle.daggy_dag.specs.Retaining.{CanAskNodes, CanAskEdges, RetainsNodes, RetainsEdges};
 
 use crate::acyclic::Acyclic;
@@ -14,12 +16,17 @@ where
     /// Keeps only the nodes for which `keep` returns true, and removes the others as
     /// [`remove_node`](Acyclic::remove_node) does.
     ///
-    /// `keep` is called once with each node, in descending index order, so that each is named by the
-    /// index that it had before the call.
+    /// `keep` is called once with each node, in descending index order, so it sees the index that
+    /// the node had before the call.
+    ///
+    /// # Requires
+    ///
+    /// - `keep` may be called with each node and its weight, in descending index order, whatever it
+    ///   returned before.
     ///
     /// # Complexity
     ///
-    /// O(node slots), plus the calls and the removals.
+    /// O(node slots), plus the calls and the cost of the removals.
     ///
     /// # Examples
     ///
@@ -35,6 +42,7 @@ where
     pub fn retain_nodes<F: FnMut(NodeIndex<Ix>, &N) -> bool>(&mut self, mut keep: F)
         requires { CanAskNodes Ix.of F.pre F.step keep self.old.graph }
         ensures retained { RetainsNodes Ix.of F.step S.KIND keep self.old.graph self.new.graph }
+        ensures keeps { S.KIND ≡ Stable → KeepsIndices self.old.graph self.new.graph }
         ensures looks { self.new.looks ≡ self.old.looks }
         ensures acyclic { IsAcyclic self.new.graph }
     {
@@ -55,12 +63,17 @@ where
     /// Keeps only the edges for which `keep` returns true, and removes the others as
     /// [`remove_edge`](Acyclic::remove_edge) does.
     ///
-    /// `keep` is called once with each edge, in descending index order, so that each is named by the
-    /// index that it had before the call.
+    /// `keep` is called once with each edge, in descending index order, so it sees the index that
+    /// the edge had before the call.
+    ///
+    /// # Requires
+    ///
+    /// - `keep` may be called with each edge and its weight, in descending index order, whatever it
+    ///   returned before.
     ///
     /// # Complexity
     ///
-    /// O(edge slots), plus the calls and the removals.
+    /// O(edge slots), plus the calls and the cost of the removals.
     ///
     /// # Examples
     ///
@@ -76,6 +89,8 @@ where
     pub fn retain_edges<F: FnMut(EdgeIndex<Ix>, &E) -> bool>(&mut self, mut keep: F)
         requires { CanAskEdges Ix.of F.pre F.step keep self.old.graph }
         ensures retained { RetainsEdges Ix.of F.step S.KIND keep self.old.graph self.new.graph }
+        ensures nodes { self.new.graph.nodes ≡ self.old.graph.nodes }
+        ensures keeps { S.KIND ≡ Stable → KeepsIndices self.old.graph self.new.graph }
         ensures looks { self.new.looks ≡ self.old.looks }
         ensures acyclic { IsAcyclic self.new.graph }
     {

@@ -6,7 +6,7 @@ ghost use Rattle.daggy_base.specs.Ordered.{IsOrderOf, place};
 
 use crate::acyclic::Acyclic;
 use daggy_base::index::{DefaultIx, IndexType, NodeIndex};
-use daggy_base::store::Store;
+use daggy_base::read_store::ReadStore;
 use daggy_order::order::{Nodes, Order};
 use std::alloc::AllocError;
 use std::fmt;
@@ -18,7 +18,7 @@ use std::marker::Model;
 ///
 /// # Complexity
 ///
-/// O(nodes) in total.
+/// O(nodes) for the whole iteration.
 #[derive(Drop)]
 pub struct TopologicalOrder<'a, Ix: IndexType = DefaultIx> {
     nodes: Nodes<'a, Ix>,
@@ -34,13 +34,17 @@ impl<'a, Ix: IndexType> Model for TopologicalOrder<'a, Ix> {
 
 impl<N: Drop, E: Drop, Ix: IndexType, S> Acyclic<N, E, Ix, S>
 where
-    S: Store<Ix, NodeWeight = N, EdgeWeight = E>,
+    S: ReadStore<Ix, NodeWeight = N, EdgeWeight = E>,
 {
     /// Returns an iterator over the nodes in topological order: each parent comes before its
     /// children. It is the order that the dag keeps, so nothing is searched or sorted. It can be
     /// read from both ends, so `.rev()` yields children before parents.
     ///
     /// Adding a node or an edge may change the order.
+    ///
+    /// # Complexity
+    ///
+    /// O(nodes) for the whole iteration.
     ///
     /// # Examples
     ///
@@ -63,7 +67,8 @@ where
         }
     }
 
-    /// The topological order that the dag keeps, to ask for positions.
+    /// The topological order that the dag maintains: it tells which of two nodes comes first, and
+    /// the position of a node.
     #[inline]
     pub fn order(&self) -> &Order<Ix>
         ensures { IsOrderOf self.now.graph result.now }

@@ -14,6 +14,7 @@ ghost use Rattle.daggy_dag.specs.Lends.{lends_node_if, lends_edge_if};
 
 use crate::acyclic::{Acyclic, Dag};
 use daggy_base::index::{EdgeIndex, IndexType, NodeIndex};
+use daggy_base::read_store::ReadStore;
 use daggy_base::source::EdgeSource;
 use daggy_base::store::Store;
 use daggy_guard::matrix;
@@ -25,7 +26,7 @@ use std::alloc::AllocError;
 
 impl<N: Drop, E: Drop, Ix: IndexType, S> GraphBase for Acyclic<N, E, Ix, S>
 where
-    S: Store<Ix, NodeWeight = N, EdgeWeight = E>,
+    S: ReadStore<Ix, NodeWeight = N, EdgeWeight = E>,
 {
     type NodeId = NodeIndex<Ix>;
 
@@ -38,7 +39,7 @@ where
 
 impl<N: Drop, E: Drop, Ix: IndexType, S> Data for Acyclic<N, E, Ix, S>
 where
-    S: Store<Ix, NodeWeight = N, EdgeWeight = E>,
+    S: ReadStore<Ix, NodeWeight = N, EdgeWeight = E>,
 {
     type NodeWeight = N;
 
@@ -49,7 +50,7 @@ where
 
 impl<N: Drop, E: Drop, Ix: IndexType, S> NodeCount for Acyclic<N, E, Ix, S>
 where
-    S: Store<Ix, NodeWeight = N, EdgeWeight = E>,
+    S: ReadStore<Ix, NodeWeight = N, EdgeWeight = E>,
 {
     #[inline]
     fn node_count(&self) -> usize
@@ -61,7 +62,7 @@ where
 
 impl<N: Drop, E: Drop, Ix: IndexType, S> GraphProp for Acyclic<N, E, Ix, S>
 where
-    S: Store<Ix, NodeWeight = N, EdgeWeight = E>,
+    S: ReadStore<Ix, NodeWeight = N, EdgeWeight = E>,
 {
     type EdgeType = Directed;
 
@@ -77,7 +78,7 @@ where
 
 impl<N: Drop, E: Drop, Ix: IndexType, S> DataMap for Acyclic<N, E, Ix, S>
 where
-    S: Store<Ix, NodeWeight = N, EdgeWeight = E>,
+    S: ReadStore<Ix, NodeWeight = N, EdgeWeight = E>,
 {
     #[inline]
     fn node_weight(&self, id: NodeIndex<Ix>) -> Option<&N>
@@ -96,7 +97,7 @@ where
 
 impl<N: Drop, E: Drop, Ix: IndexType, S> NodeIndexable for Acyclic<N, E, Ix, S>
 where
-    S: Store<Ix, NodeWeight = N, EdgeWeight = E>,
+    S: ReadStore<Ix, NodeWeight = N, EdgeWeight = E>,
 {
     ghost greatest = { Ix.greatest };
 
@@ -128,7 +129,7 @@ impl<N: Drop, E: Drop, Ix: IndexType> NodeCompactIndexable for Dag<N, E, Ix> {}
 
 impl<N: Drop, E: Drop, Ix: IndexType, S> Visitable for Acyclic<N, E, Ix, S>
 where
-    S: Store<Ix, NodeWeight = N, EdgeWeight = E>,
+    S: ReadStore<Ix, NodeWeight = N, EdgeWeight = E>,
 {
     type Map = NodeSet<Ix>;
 
@@ -165,7 +166,7 @@ where
     #[inline]
     fn node_weight_mut(&mut self, id: NodeIndex<Ix>) -> Option<&mut N>
         ensures* writes_back { sem 𝓛
-            (lends_node_if N.row E.row Ix.row S.row Ix.IndexType S.Store self.entry id result) }
+            (lends_node_if N.row E.row Ix.row S.row Ix.IndexType S.EdgeSource self.entry id result) }
         ensures value { option_copied_mut result ≡ weight_at self.old.graph (Ix.number id) }
     {
         self.node_weight_mut(id)
@@ -174,7 +175,7 @@ where
     #[inline]
     fn edge_weight_mut(&mut self, id: EdgeIndex<Ix>) -> Option<&mut E>
         ensures* writes_back { sem 𝓛
-            (lends_edge_if N.row E.row Ix.row S.row Ix.IndexType S.Store self.entry id result) }
+            (lends_edge_if N.row E.row Ix.row S.row Ix.IndexType S.EdgeSource self.entry id result) }
         ensures value { option_copied_mut result ≡ edge_weight_at self.old.graph (Ix.number id) }
     {
         self.edge_weight_mut(id)
@@ -183,7 +184,7 @@ where
 
 impl<N: Drop, E: Drop, Ix: IndexType, S> GetAdjacencyMatrix for Acyclic<N, E, Ix, S>
 where
-    S: Store<Ix, NodeWeight = N, EdgeWeight = E>,
+    S: ReadStore<Ix, NodeWeight = N, EdgeWeight = E>,
 {
     type AdjMatrix = AdjMatrix<Ix>;
 

@@ -9,7 +9,7 @@ ghost use Rattle.daggy_dag.specs.Walks.{rest_of_walk};
 
 use crate::acyclic::Acyclic;
 use daggy_base::index::{DefaultIx, Direction, EdgeIndex, IndexType, NodeIndex};
-use daggy_base::store::Store;
+use daggy_base::read_store::ReadStore;
 use daggy_visit::walk;
 use daggy_walk::walker::{FiniteWalker, FusedWalker, Walker};
 use std::alloc::AllocError;
@@ -56,7 +56,7 @@ impl<N, E, Ix: Copy> Copy for Children<N, E, Ix> {}
 
 impl<N: Drop, E: Drop, Ix: IndexType, S> Walker<Acyclic<N, E, Ix, S>> for Children<N, E, Ix>
 where
-    S: Store<Ix, NodeWeight = N, EdgeWeight = E>,
+    S: ReadStore<Ix, NodeWeight = N, EdgeWeight = E>,
 {
     type Item = (EdgeIndex<Ix>, NodeIndex<Ix>);
 
@@ -77,14 +77,14 @@ where
 
 impl<N: Drop, E: Drop, Ix: IndexType, S> FiniteWalker<Acyclic<N, E, Ix, S>> for Children<N, E, Ix>
 where
-    S: Store<Ix, NodeWeight = N, EdgeWeight = E>,
+    S: ReadStore<Ix, NodeWeight = N, EdgeWeight = E>,
 {
     ghost ends = { λ w d. tt };
 }
 
 impl<N: Drop, E: Drop, Ix: IndexType, S> FusedWalker<Acyclic<N, E, Ix, S>> for Children<N, E, Ix>
 where
-    S: Store<Ix, NodeWeight = N, EdgeWeight = E>,
+    S: ReadStore<Ix, NodeWeight = N, EdgeWeight = E>,
 {
     ghost use Rattle.daggy_walk.specs.Fused.{list_rests};
 
@@ -134,7 +134,7 @@ impl<N, E, Ix: Copy> Copy for Parents<N, E, Ix> {}
 
 impl<N: Drop, E: Drop, Ix: IndexType, S> Walker<Acyclic<N, E, Ix, S>> for Parents<N, E, Ix>
 where
-    S: Store<Ix, NodeWeight = N, EdgeWeight = E>,
+    S: ReadStore<Ix, NodeWeight = N, EdgeWeight = E>,
 {
     type Item = (EdgeIndex<Ix>, NodeIndex<Ix>);
 
@@ -155,14 +155,14 @@ where
 
 impl<N: Drop, E: Drop, Ix: IndexType, S> FiniteWalker<Acyclic<N, E, Ix, S>> for Parents<N, E, Ix>
 where
-    S: Store<Ix, NodeWeight = N, EdgeWeight = E>,
+    S: ReadStore<Ix, NodeWeight = N, EdgeWeight = E>,
 {
     ghost ends = { λ w d. tt };
 }
 
 impl<N: Drop, E: Drop, Ix: IndexType, S> FusedWalker<Acyclic<N, E, Ix, S>> for Parents<N, E, Ix>
 where
-    S: Store<Ix, NodeWeight = N, EdgeWeight = E>,
+    S: ReadStore<Ix, NodeWeight = N, EdgeWeight = E>,
 {
     ghost use Rattle.daggy_walk.specs.Fused.{list_rests};
 

@@ -8,6 +8,7 @@ ghost use Rattle.daggy_dag.specs.Lends.{lends_node, lends_node_if, lends_edge, l
 
 use crate::acyclic::Acyclic;
 use daggy_base::index::{EdgeIndex, IndexType, NodeIndex};
+use daggy_base::read_store::ReadStore;
 use daggy_base::source::EdgeSource;
 use daggy_base::store::Store;
 use std::ops::{Index, IndexMut};
@@ -20,7 +21,7 @@ where
     #[inline]
     pub fn node_weight_mut(&mut self, n: NodeIndex<Ix>) -> Option<&mut N>
         ensures* writes_back { sem 𝓛
-            (lends_node_if N.row E.row Ix.row S.row Ix.IndexType S.Store self.entry n result) }
+            (lends_node_if N.row E.row Ix.row S.row Ix.IndexType S.EdgeSource self.entry n result) }
         ensures value { option_copied_mut result ≡ weight_at self.old.graph (Ix.number n) }
     {
         if self.contains_node(n) {
@@ -34,10 +35,10 @@ where
     #[inline]
     pub fn edge_weight_mut(&mut self, e: EdgeIndex<Ix>) -> Option<&mut E>
         ensures* writes_back { sem 𝓛
-            (lends_edge_if N.row E.row Ix.row S.row Ix.IndexType S.Store self.entry e result) }
+            (lends_edge_if N.row E.row Ix.row S.row Ix.IndexType S.EdgeSource self.entry e result) }
         ensures value { option_copied_mut result ≡ edge_weight_at self.old.graph (Ix.number e) }
     {
-        if self.guarded.store.contains_edge(e) {
+        if self.guarded.store.contains_edge_index(e) {
             Some(&mut self[e])
         } else {
             None
@@ -47,7 +48,7 @@ where
 
 impl<N: Drop, E: Drop, Ix: IndexType, S> Index<NodeIndex<Ix>> for Acyclic<N, E, Ix, S>
 where
-    S: Store<Ix, NodeWeight = N, EdgeWeight = E>,
+    S: ReadStore<Ix, NodeWeight = N, EdgeWeight = E>,
 {
     type Output = N;
 
@@ -63,7 +64,7 @@ where
 
 impl<N: Drop, E: Drop, Ix: IndexType, S> Index<EdgeIndex<Ix>> for Acyclic<N, E, Ix, S>
 where
-    S: Store<Ix, NodeWeight = N, EdgeWeight = E>,
+    S: ReadStore<Ix, NodeWeight = N, EdgeWeight = E>,
 {
     type Output = E;
 
@@ -85,7 +86,7 @@ where
     fn index_mut(&mut self, n: NodeIndex<Ix>) -> &mut N
         requires { HasNode self.old.graph (Ix.number n) }
         ensures* writes_back { sem 𝓛
-            (lends_node N.row E.row Ix.row S.row Ix.IndexType S.Store self.entry n result) }
+            (lends_node N.row E.row Ix.row S.row Ix.IndexType S.EdgeSource self.entry n result) }
         ensures value { weight_at self.old.graph (Ix.number n) ≡ Some result.now }
     {
         self.guarded.store.invariant();
@@ -101,7 +102,7 @@ where
     fn index_mut(&mut self, e: EdgeIndex<Ix>) -> &mut E
         requires { HasEdge self.old.graph (Ix.number e) }
         ensures* writes_back { sem 𝓛
-            (lends_edge N.row E.row Ix.row S.row Ix.IndexType S.Store self.entry e result) }
+            (lends_edge N.row E.row Ix.row S.row Ix.IndexType S.EdgeSource self.entry e result) }
         ensures value { edge_weight_at self.old.graph (Ix.number e) ≡ Some result.now }
     {
         self.guarded.store.invariant();

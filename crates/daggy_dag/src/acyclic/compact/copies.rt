@@ -25,13 +25,17 @@ impl<N: Clone + Drop, E: Clone + Drop, Ix: IndexType> Clone
 }
 
 impl<N: Drop, E: Drop, Ix: IndexType> Acyclic<N, E, Ix, DiGraph<N, E, Ix>> {
-    /// An empty dag with capacity for `nodes` nodes and `edges` edges, for their order, and for
-    /// searches.
+    /// An empty dag with capacity for `nodes` nodes and `edges` edges, including the memory of
+    /// their order and of searches.
     ///
     /// # Errors
     ///
     /// Returns `AllocError` if an allocation fails, or if the capacity exceeds what a machine can
     /// address.
+    ///
+    /// # Complexity
+    ///
+    /// O(1), plus the allocations. The memory for searches is initialised by the first search.
     pub fn with_capacity(alloc: Global, nodes: usize, edges: usize) -> Result<Self, AllocError>
         ensures value { IfOk result (λ d. d ≡ record { graph = empty; looks = 0 }) }
         ensures nodes_fit { OnOk result (nodes < 2 ^ 63) }
@@ -72,12 +76,17 @@ impl<N: Drop, E: Drop, Ix: IndexType> Acyclic<N, E, Ix, DiGraph<N, E, Ix>> {
         self.clone()
     }
 
-    /// Reserves capacity for at least `additional` more nodes, for their order and for searches.
+    /// Reserves capacity for at least `additional` more nodes, including the memory of their order
+    /// and of searches.
     ///
     /// # Errors
     ///
     /// Returns `AllocError` if an allocation fails, or if the capacity exceeds what a machine can
     /// address; the dag is unchanged.
+    ///
+    /// # Complexity
+    ///
+    /// O(nodes) if a buffer has to be moved, and O(1) otherwise.
     pub fn reserve_nodes(&mut self, additional: usize) -> Result<(), AllocError>
         ensures same { self.new ≡ self.old }
         ensures fits { OnOk result (length self.new.graph.nodes + additional < 2 ^ 63) }
@@ -88,12 +97,17 @@ impl<N: Drop, E: Drop, Ix: IndexType> Acyclic<N, E, Ix, DiGraph<N, E, Ix>> {
         self.guarded.scratch.reserve(nodes, 0)
     }
 
-    /// Reserves the least capacity for `additional` more nodes, for their order and for searches.
+    /// Reserves the least capacity for `additional` more nodes, including the memory of their order
+    /// and of searches.
     ///
     /// # Errors
     ///
     /// Returns `AllocError` if an allocation fails, or if the capacity exceeds what a machine can
     /// address; the dag is unchanged.
+    ///
+    /// # Complexity
+    ///
+    /// O(nodes) if a buffer has to be moved, and O(1) otherwise.
     pub fn reserve_exact_nodes(&mut self, additional: usize) -> Result<(), AllocError>
         ensures same { self.new ≡ self.old }
         ensures fits { OnOk result (length self.new.graph.nodes + additional < 2 ^ 63) }
@@ -110,6 +124,10 @@ impl<N: Drop, E: Drop, Ix: IndexType> Acyclic<N, E, Ix, DiGraph<N, E, Ix>> {
     ///
     /// Returns `AllocError` if an allocation fails, or if the capacity exceeds what a machine can
     /// address; the dag is unchanged.
+    ///
+    /// # Complexity
+    ///
+    /// O(edges) if a buffer has to be moved, and O(1) otherwise.
     pub fn reserve_edges(&mut self, additional: usize) -> Result<(), AllocError>
         ensures same { self.new ≡ self.old }
         ensures fits { OnOk result (length self.new.graph.edges + additional < 2 ^ 63) }
@@ -123,6 +141,10 @@ impl<N: Drop, E: Drop, Ix: IndexType> Acyclic<N, E, Ix, DiGraph<N, E, Ix>> {
     ///
     /// Returns `AllocError` if an allocation fails, or if the capacity exceeds what a machine can
     /// address; the dag is unchanged.
+    ///
+    /// # Complexity
+    ///
+    /// O(edges) if a buffer has to be moved, and O(1) otherwise.
     pub fn reserve_exact_edges(&mut self, additional: usize) -> Result<(), AllocError>
         ensures same { self.new ≡ self.old }
         ensures fits { OnOk result (length self.new.graph.edges + additional < 2 ^ 63) }
@@ -136,6 +158,10 @@ impl<N: Drop, E: Drop, Ix: IndexType> Acyclic<N, E, Ix, DiGraph<N, E, Ix>> {
     ///
     /// Returns `AllocError` if a reallocation fails; that buffer keeps its size, and the dag is
     /// unchanged.
+    ///
+    /// # Complexity
+    ///
+    /// O(nodes + edges) if a buffer has to be moved, and O(1) otherwise.
     pub fn shrink_to_fit(&mut self) -> Result<(), AllocError>
         ensures { self.new ≡ self.old }
     {
@@ -148,6 +174,10 @@ impl<N: Drop, E: Drop, Ix: IndexType> Acyclic<N, E, Ix, DiGraph<N, E, Ix>> {
     ///
     /// Returns `AllocError` if the reallocation fails; the buffer keeps its size, and the dag is
     /// unchanged.
+    ///
+    /// # Complexity
+    ///
+    /// O(nodes) if a buffer has to be moved, and O(1) otherwise.
     pub fn shrink_to_fit_nodes(&mut self) -> Result<(), AllocError>
         ensures { self.new ≡ self.old }
     {
@@ -160,6 +190,10 @@ impl<N: Drop, E: Drop, Ix: IndexType> Acyclic<N, E, Ix, DiGraph<N, E, Ix>> {
     ///
     /// Returns `AllocError` if the reallocation fails; the buffer keeps its size, and the dag is
     /// unchanged.
+    ///
+    /// # Complexity
+    ///
+    /// O(edges) if a buffer has to be moved, and O(1) otherwise.
     pub fn shrink_to_fit_edges(&mut self) -> Result<(), AllocError>
         ensures { self.new ≡ self.old }
     {

@@ -19,6 +19,10 @@ use daggy_graph::graph::lists::{Edges, Neighbors};
 
 impl<N: Drop, E: Drop, Ix: IndexType> Acyclic<N, E, Ix, DiGraph<N, E, Ix>> {
     /// The indices of the nodes, in ascending order. It does not borrow the dag.
+    ///
+    /// # Complexity
+    ///
+    /// O(nodes) for the whole iteration.
     #[inline]
     pub fn node_identifiers(&self) -> NodeIdentifiers<Ix>
         ensures rest { result ≡ node_identifiers_of self.now.graph }
@@ -28,6 +32,10 @@ impl<N: Drop, E: Drop, Ix: IndexType> Acyclic<N, E, Ix, DiGraph<N, E, Ix>> {
     }
 
     /// The indices of the edges, in ascending order. It does not borrow the dag.
+    ///
+    /// # Complexity
+    ///
+    /// O(edges) for the whole iteration.
     #[inline]
     pub fn edge_identifiers(&self) -> EdgeIdentifiers<Ix>
         ensures rest { result ≡ edge_identifiers_of self.now.graph }
@@ -37,6 +45,10 @@ impl<N: Drop, E: Drop, Ix: IndexType> Acyclic<N, E, Ix, DiGraph<N, E, Ix>> {
     }
 
     /// The same as [`node_identifiers`](Acyclic::node_identifiers).
+    ///
+    /// # Complexity
+    ///
+    /// O(nodes) for the whole iteration.
     #[inline]
     pub fn node_indices(&self) -> NodeIdentifiers<Ix>
         ensures rest { result ≡ node_identifiers_of self.now.graph }
@@ -46,6 +58,10 @@ impl<N: Drop, E: Drop, Ix: IndexType> Acyclic<N, E, Ix, DiGraph<N, E, Ix>> {
     }
 
     /// The same as [`edge_identifiers`](Acyclic::edge_identifiers).
+    ///
+    /// # Complexity
+    ///
+    /// O(edges) for the whole iteration.
     #[inline]
     pub fn edge_indices(&self) -> EdgeIdentifiers<Ix>
         ensures rest { result ≡ edge_identifiers_of self.now.graph }
@@ -54,7 +70,11 @@ impl<N: Drop, E: Drop, Ix: IndexType> Acyclic<N, E, Ix, DiGraph<N, E, Ix>> {
         self.edge_identifiers()
     }
 
-    /// The nodes by ascending index, each with its weight.
+    /// The nodes in ascending index order, each with its weight.
+    ///
+    /// # Complexity
+    ///
+    /// O(nodes) for the whole iteration.
     #[inline]
     pub fn node_references(&self) -> NodeReferences<'_, N, Ix>
         ensures rest { result ≡ node_references_of self.now.graph }
@@ -63,7 +83,11 @@ impl<N: Drop, E: Drop, Ix: IndexType> Acyclic<N, E, Ix, DiGraph<N, E, Ix>> {
         self.guarded.store.node_references()
     }
 
-    /// The weights of the nodes, by ascending index.
+    /// The weights of the nodes, in ascending index order.
+    ///
+    /// # Complexity
+    ///
+    /// O(nodes) for the whole iteration.
     #[inline]
     pub fn node_weights(&self) -> NodeWeights<'_, N, Ix>
         ensures rest { result ≡ node_weights_of self.now.graph }
@@ -72,7 +96,11 @@ impl<N: Drop, E: Drop, Ix: IndexType> Acyclic<N, E, Ix, DiGraph<N, E, Ix>> {
         self.guarded.store.node_weights()
     }
 
-    /// The weights of the edges, by ascending index.
+    /// The weights of the edges, in ascending index order.
+    ///
+    /// # Complexity
+    ///
+    /// O(edges) for the whole iteration.
     #[inline]
     pub fn edge_weights(&self) -> EdgeWeights<'_, E, Ix>
         ensures rest { result ≡ edge_weights_of self.now.graph }
@@ -81,7 +109,21 @@ impl<N: Drop, E: Drop, Ix: IndexType> Acyclic<N, E, Ix, DiGraph<N, E, Ix>> {
         self.guarded.store.edge_weights()
     }
 
-    /// The edges, by ascending index.
+    /// The edges, in ascending index order.
+    ///
+    /// # Complexity
+    ///
+    /// O(edges) for the whole iteration.
+    ///
+    /// # Examples
+    ///
+    /// ```
+    /// let mut dag: Dag<&'static str, u32> = Dag::new(rt.alloc());
+    /// let sow = dag.add_node("sow")?;
+    /// let (days, reap) = dag.add_child(sow, 90, "reap")?;
+    /// let edge = dag.edge_references().next();
+    /// assert!(rt; edge.is_some_and(|edge| edge.id() == days && edge.target() == reap));
+    /// ```
     #[inline]
     pub fn edge_references(&self) -> EdgeReferences<'_, E, Ix>
         ensures rest { result ≡ edge_references_of self.now.graph }

@@ -8,13 +8,18 @@ ghost use Rattle.daggy_base.specs.Filtering.{IsFiltered, ListsDescend, HaveSameE
 
 use crate::acyclic::{Acyclic, Dag};
 use daggy_base::index::{EdgeIndex, IndexType, NodeIndex};
-use daggy_base::store::Store;
+use daggy_base::read_store::ReadStore;
 use daggy_graph::graph::DiGraph;
 use std::alloc::AllocError;
 
 impl<N: Drop, E: Drop, Ix: IndexType> Acyclic<N, E, Ix, DiGraph<N, E, Ix>> {
     /// A dag with the same indices and lists, and with the weights returned by the closures: `f` is
-    /// called with each node by ascending index, and then `g` with each edge.
+    /// called with each node in ascending index order, and then `g` with each edge.
+    ///
+    /// # Requires
+    ///
+    /// - `nodes`: `f` may be called with each node and its weight, in ascending index order.
+    /// - `edges`: `g` may be called with each edge and its weight, in ascending index order.
     ///
     /// # Errors
     ///
@@ -23,6 +28,16 @@ impl<N: Drop, E: Drop, Ix: IndexType> Acyclic<N, E, Ix, DiGraph<N, E, Ix>> {
     /// # Complexity
     ///
     /// O(nodes + edges), plus the calls.
+    ///
+    /// # Examples
+    ///
+    /// ```
+    /// let mut dag: Dag<u32, u32> = Dag::new(rt.alloc());
+    /// let sow = dag.add_node(1)?;
+    /// let (days, _) = dag.add_child(sow, 90, 2)?;
+    /// let weeks = dag.map(|_, n| *n, |_, days| *days / 7)?;
+    /// assert!(rt; weeks.edge_weight(days) == Some(&12));
+    /// ```
     pub fn map<
         N2: Drop,
         E2: Drop,
@@ -42,11 +57,17 @@ impl<N: Drop, E: Drop, Ix: IndexType> Acyclic<N, E, Ix, DiGraph<N, E, Ix>> {
     }
 
     /// A dag of the nodes and edges for which the closures return a weight: `f` is called with each
-    /// node by ascending index, and then `g` with each edge whose endpoints were both kept.
+    /// node in ascending index order, and then `g` with each edge whose endpoints were both kept.
     ///
     /// The nodes that are kept get new indices from 0 on, in their old order. The edges that are
-    /// kept are added again by ascending index, so each list is in descending index order. If
+    /// kept are added again in ascending index order, so each list is in descending index order. If
     /// nothing is left out, each node and edge keeps its index.
+    ///
+    /// # Requires
+    ///
+    /// - `nodes`: `f` may be called with each node and its weight, in ascending index order.
+    /// - `edges`: `g` may be called with the edges that are kept and their weights, in ascending
+    ///   index order, whichever edges these are.
     ///
     /// # Errors
     ///
@@ -55,6 +76,21 @@ impl<N: Drop, E: Drop, Ix: IndexType> Acyclic<N, E, Ix, DiGraph<N, E, Ix>> {
     /// # Complexity
     ///
     /// O(nodes + edges), plus the calls.
+    ///
+    /// # Examples
+    ///
+    /// ```
+    /// let mut dag: Dag<u32, u32> = Dag::new(rt.alloc());
+    /// let sow = dag.add_node(1)?;
+    /// let _ = dag.add_child(sow, 90, 2)?;
+    /// let _ = dag.add_child(sow, 1, 3)?;
+    /// let long = dag.filter_map(
+    ///     |_, n| Some(*n),
+    ///     |_, days| if *days > 7 { Some(*days) } else { None },
+    /// )?;
+    /// assert!(rt; long.node_count() == 3);
+    /// assert!(rt; long.edge_count() == 1);
+    /// ```
     pub fn filter_map<
         N2: Drop,
         E2: Drop,

@@ -6,15 +6,29 @@ ghost use Rattle.daggy_base.specs.Rewriting.{RewritesNodes, RewritesEdges};
 
 use crate::acyclic::Acyclic;
 use daggy_base::index::{EdgeIndex, IndexType, NodeIndex};
-use daggy_base::store::Store;
+use daggy_base::read_store::ReadStore;
 use daggy_graph::graph::DiGraph;
 
 impl<N: Drop, E: Drop, Ix: IndexType> Acyclic<N, E, Ix, DiGraph<N, E, Ix>> {
-    /// Calls `f` with each node by ascending index and a mutable reference to its weight.
+    /// Calls `f` with each node in ascending index order and a mutable reference to its weight.
+    ///
+    /// # Requires
+    ///
+    /// - `f` may be called with each node and a mutable reference to its weight, in ascending index
+    ///   order.
     ///
     /// # Complexity
     ///
     /// O(nodes), plus the calls.
+    ///
+    /// # Examples
+    ///
+    /// ```
+    /// let mut dag: Dag<u32, ()> = Dag::new(rt.alloc());
+    /// let one = dag.add_node(1)?;
+    /// dag.update_node_weights(|_, weight| *weight = 7);
+    /// assert!(rt; dag.node_weight(one) == Some(&7));
+    /// ```
     pub fn update_node_weights<F: FnMut(NodeIndex<Ix>, &mut N)>(&mut self, f: F)
         requires { CanLendNodes Ix.of F.pre F.step f self.old.graph }
         ensures written { RewritesNodes Ix.of F.step f self.old.graph self.new.graph }
@@ -25,7 +39,12 @@ impl<N: Drop, E: Drop, Ix: IndexType> Acyclic<N, E, Ix, DiGraph<N, E, Ix>> {
         self.guarded.store.update_node_weights(f);
     }
 
-    /// Calls `f` with each edge by ascending index and a mutable reference to its weight.
+    /// Calls `f` with each edge in ascending index order and a mutable reference to its weight.
+    ///
+    /// # Requires
+    ///
+    /// - `f` may be called with each edge and a mutable reference to its weight, in ascending index
+    ///   order.
     ///
     /// # Complexity
     ///

@@ -9,11 +9,18 @@ ghost use Rattle.daggy_base.specs.Calls.{TakesAtTwo, CalledAtTwo};
 
 use crate::acyclic::Acyclic;
 use daggy_base::index::{EdgeIndex, IndexType, NodeIndex};
-use daggy_base::store::Store;
+use daggy_base::read_store::ReadStore;
 use daggy_graph::graph::DiGraph;
 
 impl<N: Drop, E: Drop, Ix: IndexType> Acyclic<N, E, Ix, DiGraph<N, E, Ix>> {
     /// Calls `f` with mutable references to the weights of two nodes, and returns its result.
+    ///
+    /// # Requires
+    ///
+    /// - `first`: `a` is a node of the dag. Test: `contains_node(a)`.
+    /// - `second`: `b` is a node of the dag. Test: `contains_node(b)`.
+    /// - `different`: `a` and `b` are not the same index. Test: `a != b`.
+    /// - `callable`: `f` may be called with these two weights.
     ///
     /// # Complexity
     ///
@@ -43,6 +50,13 @@ impl<N: Drop, E: Drop, Ix: IndexType> Acyclic<N, E, Ix, DiGraph<N, E, Ix>> {
 
     /// Calls `f` with mutable references to the weights of two edges, and returns its result.
     ///
+    /// # Requires
+    ///
+    /// - `first`: `a` is an edge of the dag. Test: `edge_endpoints(a).is_some()`.
+    /// - `second`: `b` is an edge of the dag. Test: `edge_endpoints(b).is_some()`.
+    /// - `different`: `a` and `b` are not the same index. Test: `a != b`.
+    /// - `callable`: `f` may be called with these two weights.
+    ///
     /// # Complexity
     ///
     /// O(1), plus the call.
@@ -71,6 +85,12 @@ impl<N: Drop, E: Drop, Ix: IndexType> Acyclic<N, E, Ix, DiGraph<N, E, Ix>> {
 
     /// Calls `f` with mutable references to the weights of a node and an edge, and returns its
     /// result.
+    ///
+    /// # Requires
+    ///
+    /// - `node`: `n` is a node of the dag. Test: `contains_node(n)`.
+    /// - `edge`: `e` is an edge of the dag. Test: `edge_endpoints(e).is_some()`.
+    /// - `callable`: `f` may be called with these two weights.
     ///
     /// # Complexity
     ///

@@ -25,13 +25,17 @@ impl<N: Clone + Drop, E: Clone + Drop, Ix: IndexType> Clone
 }
 
 impl<N: Drop, E: Drop, Ix: IndexType> Acyclic<N, E, Ix, StableDiGraph<N, E, Ix>> {
-    /// An empty dag with capacity for `nodes` nodes and `edges` edges, for their order, and for
-    /// searches.
+    /// An empty dag with capacity for `nodes` nodes and `edges` edges, including the memory of
+    /// their order and of searches.
     ///
     /// # Errors
     ///
     /// Returns `AllocError` if an allocation fails, or if the capacity exceeds what a machine can
     /// address.
+    ///
+    /// # Complexity
+    ///
+    /// O(1), plus the allocations. The memory for searches is initialised by the first search.
     pub fn with_capacity(alloc: Global, nodes: usize, edges: usize) -> Result<Self, AllocError>
         ensures value { IfOk result (λ d. d ≡ record { graph = empty; looks = 0 }) }
         ensures nodes_fit { OnOk result (nodes < 2 ^ 63) }

@@ -19,6 +19,10 @@ use daggy_stable::stable_graph::lists::{Edges, Neighbors};
 
 impl<N: Drop, E: Drop, Ix: IndexType> Acyclic<N, E, Ix, StableDiGraph<N, E, Ix>> {
     /// The indices of the nodes, in ascending order.
+    ///
+    /// # Complexity
+    ///
+    /// O(node slots) for the whole iteration, since vacant slots are skipped.
     #[inline]
     pub fn node_identifiers(&self) -> NodeIdentifiers<'_, N, Ix>
         ensures rest { result ≡ node_identifiers_of self.now.graph }
@@ -28,6 +32,10 @@ impl<N: Drop, E: Drop, Ix: IndexType> Acyclic<N, E, Ix, StableDiGraph<N, E, Ix>>
     }
 
     /// The indices of the edges, in ascending order.
+    ///
+    /// # Complexity
+    ///
+    /// O(edge slots) for the whole iteration, since vacant slots are skipped.
     #[inline]
     pub fn edge_identifiers(&self) -> EdgeIdentifiers<'_, E, Ix>
         ensures rest { result ≡ edge_identifiers_of self.now.graph }
@@ -37,6 +45,10 @@ impl<N: Drop, E: Drop, Ix: IndexType> Acyclic<N, E, Ix, StableDiGraph<N, E, Ix>>
     }
 
     /// The same as [`node_identifiers`](Acyclic::node_identifiers).
+    ///
+    /// # Complexity
+    ///
+    /// O(node slots) for the whole iteration, since vacant slots are skipped.
     #[inline]
     pub fn node_indices(&self) -> NodeIdentifiers<'_, N, Ix>
         ensures rest { result ≡ node_identifiers_of self.now.graph }
@@ -46,6 +58,10 @@ impl<N: Drop, E: Drop, Ix: IndexType> Acyclic<N, E, Ix, StableDiGraph<N, E, Ix>>
     }
 
     /// The same as [`edge_identifiers`](Acyclic::edge_identifiers).
+    ///
+    /// # Complexity
+    ///
+    /// O(edge slots) for the whole iteration, since vacant slots are skipped.
     #[inline]
     pub fn edge_indices(&self) -> EdgeIdentifiers<'_, E, Ix>
         ensures rest { result ≡ edge_identifiers_of self.now.graph }
@@ -54,7 +70,11 @@ impl<N: Drop, E: Drop, Ix: IndexType> Acyclic<N, E, Ix, StableDiGraph<N, E, Ix>>
         self.edge_identifiers()
     }
 
-    /// The nodes by ascending index, each with its weight.
+    /// The nodes in ascending index order, each with its weight.
+    ///
+    /// # Complexity
+    ///
+    /// O(node slots) for the whole iteration, since vacant slots are skipped.
     #[inline]
     pub fn node_references(&self) -> NodeReferences<'_, N, Ix>
         ensures rest { result ≡ node_references_of self.now.graph }
@@ -63,7 +83,11 @@ impl<N: Drop, E: Drop, Ix: IndexType> Acyclic<N, E, Ix, StableDiGraph<N, E, Ix>>
         self.guarded.store.node_references()
     }
 
-    /// The weights of the nodes, by ascending index.
+    /// The weights of the nodes, in ascending index order.
+    ///
+    /// # Complexity
+    ///
+    /// O(node slots) for the whole iteration, since vacant slots are skipped.
     #[inline]
     pub fn node_weights(&self) -> NodeWeights<'_, N, Ix>
         ensures rest { result ≡ node_weights_of self.now.graph }
@@ -72,7 +96,11 @@ impl<N: Drop, E: Drop, Ix: IndexType> Acyclic<N, E, Ix, StableDiGraph<N, E, Ix>>
         self.guarded.store.node_weights()
     }
 
-    /// The weights of the edges, by ascending index.
+    /// The weights of the edges, in ascending index order.
+    ///
+    /// # Complexity
+    ///
+    /// O(edge slots) for the whole iteration, since vacant slots are skipped.
     #[inline]
     pub fn edge_weights(&self) -> EdgeWeights<'_, E, Ix>
         ensures rest { result ≡ edge_weights_of self.now.graph }
@@ -81,7 +109,11 @@ impl<N: Drop, E: Drop, Ix: IndexType> Acyclic<N, E, Ix, StableDiGraph<N, E, Ix>>
         self.guarded.store.edge_weights()
     }
 
-    /// The edges, by ascending index.
+    /// The edges, in ascending index order.
+    ///
+    /// # Complexity
+    ///
+    /// O(edge slots) for the whole iteration, since vacant slots are skipped.
     #[inline]
     pub fn edge_references(&self) -> EdgeReferences<'_, E, Ix>
         ensures rest { result ≡ edge_references_of self.now.graph }

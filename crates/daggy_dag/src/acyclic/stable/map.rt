@@ -10,13 +10,13 @@ ghost use Rattle.daggy_base.specs.Filtering.{ListsDescend};
 
 use crate::acyclic::{Acyclic, StableDag};
 use daggy_base::index::{EdgeIndex, IndexType, NodeIndex};
-use daggy_base::store::Store;
+use daggy_base::read_store::ReadStore;
 use daggy_order::order::Order;
 use daggy_stable::stable_graph::StableDiGraph;
 use std::alloc::AllocError;
 
 // Takes the nodes out of an order that a graph does not have. Each is below `slots`.
-fn keep_existing<Ix: IndexType, S: Store<Ix>>(store: &S, order: &mut Order<Ix>, slots: usize)
+fn keep_existing<Ix: IndexType, S: ReadStore<Ix>>(store: &S, order: &mut Order<Ix>, slots: usize)
     requires few { slots ≤ Ix.greatest }
     requires below { (n : ℕ) → Contains order.old n → n < slots }
     ensures { order.new ≡ filter (λ n. is_some (weight_at (S.graph store.now) n)) order.old }
@@ -31,7 +31,12 @@ fn keep_existing<Ix: IndexType, S: Store<Ix>>(store: &S, order: &mut Order<Ix>, 
 
 impl<N: Drop, E: Drop, Ix: IndexType> Acyclic<N, E, Ix, StableDiGraph<N, E, Ix>> {
     /// A dag with the same slots and lists, and with the weights returned by the closures: `f` is
-    /// called with each node by ascending index, and then `g` with each edge.
+    /// called with each node in ascending index order, and then `g` with each edge.
+    ///
+    /// # Requires
+    ///
+    /// - `nodes`: `f` may be called with each node and its weight, in ascending index order.
+    /// - `edges`: `g` may be called with each edge and its weight, in ascending index order.
     ///
     /// # Errors
     ///
@@ -59,11 +64,17 @@ impl<N: Drop, E: Drop, Ix: IndexType> Acyclic<N, E, Ix, StableDiGraph<N, E, Ix>>
     }
 
     /// A dag of the nodes and edges for which the closures return a weight: `f` is called with each
-    /// node by ascending index, and then `g` with each edge whose endpoints were both kept.
+    /// node in ascending index order, and then `g` with each edge whose endpoints were both kept.
     ///
-    /// What is kept keeps its index. Slots after the last node and the last edge are dropped; what
-    /// is left out leaves vacant slots, the highest of which is reused first. Each list is in
-    /// descending index order.
+    /// Nodes and edges that are kept keep their indices. Slots after the last node and the last
+    /// edge are dropped; what is left out leaves vacant slots, the highest of which is reused
+    /// first. Each list is in descending index order.
+    ///
+    /// # Requires
+    ///
+    /// - `nodes`: `f` may be called with each node and its weight, in ascending index order.
+    /// - `edges`: `g` may be called with the edges that are kept and their weights, in ascending
+    ///   index order, whichever edges these are.
     ///
     /// # Errors
     ///

@@ -6,11 +6,16 @@ ghost use Rattle.daggy_base.specs.Rewriting.{RewritesNodes, RewritesEdges};
 
 use crate::acyclic::Acyclic;
 use daggy_base::index::{EdgeIndex, IndexType, NodeIndex};
-use daggy_base::store::Store;
+use daggy_base::read_store::ReadStore;
 use daggy_stable::stable_graph::StableDiGraph;
 
 impl<N: Drop, E: Drop, Ix: IndexType> Acyclic<N, E, Ix, StableDiGraph<N, E, Ix>> {
-    /// Calls `f` with each node by ascending index and a mutable reference to its weight.
+    /// Calls `f` with each node in ascending index order and a mutable reference to its weight.
+    ///
+    /// # Requires
+    ///
+    /// - `f` may be called with each node and a mutable reference to its weight, in ascending index
+    ///   order.
     ///
     /// # Complexity
     ///
@@ -25,7 +30,12 @@ impl<N: Drop, E: Drop, Ix: IndexType> Acyclic<N, E, Ix, StableDiGraph<N, E, Ix>>
         self.guarded.store.update_node_weights(f);
     }
 
-    /// Calls `f` with each edge by ascending index and a mutable reference to its weight.
+    /// Calls `f` with each edge in ascending index order and a mutable reference to its weight.
+    ///
+    /// # Requires
+    ///
+    /// - `f` may be called with each edge and a mutable reference to its weight, in ascending index
+    ///   order.
     ///
     /// # Complexity
     ///

@@ -1,5 +1,4 @@
-use Rattle.std.proofs.Common.{◌∙◌, map, ap, inl, refl, sym, rules, arith}
-use Rattle.std.proofs.lemmas.List.{length-map}
+use Rattle.std.proofs.Common.{◌∙◌, map, ap, inl, refl, rules, arith}
 use Rattle.std.specs.Iterator.{Yields}
 use Rattle.daggy_order.proofs.OrderLaws.{acyclic_from_order}
 use Rattle.daggy_guard.proofs.ItemsSoFar.{yields_more, drained}
@@ -24,9 +23,8 @@ items-preserved g c = record {
     same_slots = refl;
     same_weights = c.add_item.ensures.weights;
     spare = c.add_item.ensures.capacity;
-    count = _;
-    counted = c.items.edges.ok.0 ∙ sym (length-map c.items.edges.items g.Ix.IndexType.number);
     step = c.in-Ok.ensures.step;
+    few_looks = c.add_item.ensures.counted _ _ c.items.invariant.adding.few_looks;
   };
 }
 
@@ -58,7 +56,8 @@ returns-in-Err-clause-counted g c =
     let back =
     c.roll_back.ensures.returned _ _ (series_kept s _ _ c.in-Err.ensures.unchanged
     (ap (map g.Ix.IndexType.number) (c.as_slice.ensures.value ∙ c.in-Err.ensures.kept))) in
-    rw c.after.ensures (few_at_fault s c.in-Err.fault _ back _ _ c.in-Err.ensures.counted c.roll_back.ensures.counted)
+    rw c.after.ensures (few_at_fault s c.in-Err.fault _ _ back _ _ (c.add_item.ensures.counted _ _ s.few_looks)
+    c.roll_back.ensures.counted)
 
 pub returns-then-not-settle-clause-refused : goal.returns-then-not-settle-clause-refused
 returns-then-not-settle-clause-refused g c =

@@ -8,7 +8,7 @@ invariant-items g l = record {
   ends : (goal.iterator-items g).is_finite l.item-iterator;
   same : l.scratch ≡ l.fn.scratch;
   looked : g.S.EdgeSource.looks l.fn.store ≤ g.S.EdgeSource.looks l.store;
-  adding : Adding g.Ix.IndexType.number g.Ix.IndexType.greatest g.S.Store.KIND record {
+  adding : Adding g.Ix.IndexType.number g.Ix.IndexType.greatest g.S.ReadStore.KIND record {
     graph = g.S.EdgeSource.graph l.fn.store;
     room = l.fn.scratch.nodes;
     looks = g.S.EdgeSource.looks l.fn.store;

@@ -8,9 +8,9 @@ use Rattle.daggy_guard.proofs.edge_batch.roll_back.Given as goal
 abbrev pub invariant-steps : goal.invariant-steps
 invariant-steps g l =
     (before : Graph g.row.S-NodeWeight.Denot g.row.S-EdgeWeight.Denot) (xs : List (NewEdge g.row.S-EdgeWeight.Denot))
-    → IsBatchSoFar g.Ix.IndexType.greatest g.S.Store.KIND before (g.S.EdgeSource.graph l.fn.store) xs
+    → IsBatchSoFar g.Ix.IndexType.greatest g.S.ReadStore.KIND before (g.S.EdgeSource.graph l.fn.store) xs
     (map g.Ix.IndexType.number l.edges) l.slot_count
-    → Rolling g.Ix.IndexType.greatest g.S.Store.KIND record {
+    → Rolling g.Ix.IndexType.greatest g.S.ReadStore.KIND record {
       graph = before;
       items = xs;
       edges = map g.Ix.IndexType.number l.edges;

@@ -8,7 +8,7 @@ use Rattle.daggy_guard.proofs.guard.put_node.Goals as goal
 
 pub put-requires-clause-real : goal.put-requires-clause-real
 put-requires-clause-real g c =
-    new_low (added_node {kind = g.S.Store.KIND} c.args.weight c.invariant.ensures.well_formed
+    new_low (added_node {kind = g.S.ReadStore.KIND} c.args.weight c.invariant.ensures.well_formed
     c.invariant.ensures.compact c.node_slots-old_slots.ensures c.in_ok-n.ensures.index
     c.in_ok-n.ensures.added) c.invariant-2.ensures.well_formed
 

@@ -5,7 +5,7 @@ use Rattle.daggy_guard.proofs.parents.add_parents.Given as goal
 abbrev pub invariant-items : goal.invariant-items
 invariant-items g l = record {
   looks : g.S.EdgeSource.looks l.store ≡ g.S.EdgeSource.looks l.fn.store;
-  turn : InTurn g.Ix.IndexType.number g.Ix.IndexType.greatest g.S.Store.KIND (g.S.EdgeSource.graph l.fn.store)
+  turn : InTurn g.Ix.IndexType.number g.Ix.IndexType.greatest g.S.ReadStore.KIND (g.S.EdgeSource.graph l.fn.store)
       (g.Ix.IndexType.number l.n) l.fn.items.items record {
         graph = g.S.EdgeSource.graph l.store;
         left = l.left.items;

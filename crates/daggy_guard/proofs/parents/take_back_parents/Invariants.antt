@@ -9,9 +9,9 @@ abbrev pub invariant-steps : goal.invariant-steps
 invariant-steps g l =
     (before : Graph g.row.S-NodeWeight.Denot g.row.S-EdgeWeight.Denot) (n : ℕ)
     (given : List (g.row.Ix.Denot × g.row.S-EdgeWeight.Denot))
-    → IsBatchSoFar g.Ix.IndexType.greatest g.S.Store.KIND before (g.S.EdgeSource.graph l.fn.store)
+    → IsBatchSoFar g.Ix.IndexType.greatest g.S.ReadStore.KIND before (g.S.EdgeSource.graph l.fn.store)
     (edges_to g.Ix.IndexType.number n given) (map g.Ix.IndexType.number l.edges) l.slot_count
-    → PuttingBack g.Ix.IndexType.number g.Ix.IndexType.greatest g.S.Store.KIND record {
+    → PuttingBack g.Ix.IndexType.number g.Ix.IndexType.greatest g.S.ReadStore.KIND record {
       graph = before;
       items = edges_to g.Ix.IndexType.number n given;
       edges = map g.Ix.IndexType.number l.edges;

@@ -1,7 +1,7 @@
 use Rattle.std.proofs.Common.{subst}
 use Rattle.daggy_base.specs.WellFormed.{IsWellFormed}
 use Rattle.daggy_guard.proofs.GuardedChange.{same_graph}
-use Rattle.daggy_dag.proofs.JoinedByEdge.{joined_if_found}
+use Rattle.daggy_base.proofs.JoinedByEdge.{joined_if_found}
 use Rattle.daggy_dag.proofs.acyclic.Acyclic.contains_edge.Goals as goal
 
 pub returns : goal.returns

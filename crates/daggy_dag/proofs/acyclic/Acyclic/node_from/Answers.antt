@@ -11,7 +11,7 @@ use Rattle.daggy_dag.proofs.acyclic.Acyclic.node_from.Goals as goal
 
 -- no slot of the compact kind is vacant
 full : (g : Over) (c : After-node_slots-slots g)
-    → g.S.Store.KIND ≡ Compact → IsFull (g.S.EdgeSource.graph c.self-inside.inside.0.0.store).nodes
+    → g.S.ReadStore.KIND ≡ Compact → IsFull (g.S.EdgeSource.graph c.self-inside.inside.0.0.store).nodes
 full g c compact =
     full_from _ _ c.invariant.ensures.well_formed.node_slots (c.invariant.ensures.compact compact).nodes
 
@@ -36,16 +36,16 @@ returns-then-contains_node-clause-place g c =
     let has =
     subst (HasNode (g.S.EdgeSource.graph c.self-inside.inside.0.0.store)) c.new.ensures.number
     (c.contains_node.ensures.exists.0 c.if-contains_node.true) in
-    next_there g.S.Store.KIND slots c.args.from c.along.i
+    next_there g.S.ReadStore.KIND slots c.args.from c.along.i
     (full g (goal.at.returns-then-contains_node-clause-place g c).After-node_slots-slots) so_far has
-    ∙ ap (λ s. next_slot g.S.Store.KIND s.graph.nodes c.args.from) (ap (λ i. i.guarded) c.self-inside.view_is ∙ c.self.view_is)
+    ∙ ap (λ s. next_slot g.S.ReadStore.KIND s.graph.nodes c.args.from) (ap (λ i. i.guarded) c.self-inside.view_is ∙ c.self.view_is)
 
 pub returns-clause-place : goal.returns-clause-place
 returns-clause-place g c =
     let so_far =
     subst (λ z. next_slot Stable z.nodes c.args.from ≡ next_slot Stable z.nodes c.along.i)
     (sym (ap (λ s. s.graph) (ap (λ i. i.guarded) c.self-inside.view_is ∙ c.self.view_is))) c.along.invariant in
-    next_behind g.S.Store.KIND (g.S.EdgeSource.graph c.self-inside.inside.0.0.store).nodes c.args.from c.along.i
+    next_behind g.S.ReadStore.KIND (g.S.EdgeSource.graph c.self-inside.inside.0.0.store).nodes c.args.from c.along.i
     (full g (goal.at.returns-clause-place g c).After-node_slots-slots) so_far
     (omega (arith, c.along-test.false, c.node_slots-slots.ensures))
-    ∙ ap (λ s. next_slot g.S.Store.KIND s.graph.nodes c.args.from) (ap (λ i. i.guarded) c.self-inside.view_is ∙ c.self.view_is)
+    ∙ ap (λ s. next_slot g.S.ReadStore.KIND s.graph.nodes c.args.from) (ap (λ i. i.guarded) c.self-inside.view_is ∙ c.self.view_is)

@@ -5,6 +5,7 @@ use Rattle.daggy_base.specs.Graph.{node_weight}
 use Rattle.daggy_base.specs.Mapping.{CalledAt}
 use Rattle.daggy_base.specs.Removal.{without_node}
 use Rattle.daggy_reduction.proofs.RemainingEdges.{slot_inside}
+use Rattle.daggy_base.proofs.IndicesKept.{keeps_on}
 use Rattle.daggy_dag.proofs.Retained.{all_asked, may_call, vacant_slot, slot_stays, slot_removed, node_below}
 use Rattle.daggy_dag.proofs.acyclic.Acyclic.retain_nodes.Goals as goal
 
@@ -25,14 +26,14 @@ keep-requires g c =
     let w = c.in-Some.weight.now in
     let at : node_weight graph n ≡ Some w = sym (c.in-Some.ensures ∙ ap (λ k. node_weight graph k) c.new-n.ensures.number) in
     subst (λ e. pre c.nodes.keep e c.in-Some.weight) (sym c.new-n.ensures.value)
-    (may_call of pre (goal.F-step g) (λ w. w) (λ z. z.nodes) (without_node g.S.Store.KIND) c.args.keep c.args.self.now.graph
+    (may_call of pre (goal.F-step g) (λ w. w) (λ z. z.nodes) (without_node g.S.ReadStore.KIND) c.args.keep c.args.self.now.graph
     c.nodes.keep graph c.nodes.slot n is c.nodes.invariant.asking w at c.in-Some.weight refl)
 
 pub nodes-preserved-then-not-keep : goal.nodes-preserved-then-not-keep
 nodes-preserved-then-not-keep g c =
     let of = g.Ix.IndexType.of in
     let step = goal.F-step g in
-    let kind = g.S.Store.KIND in
+    let kind = g.S.ReadStore.KIND in
     let old = c.nodes.self in
     let n = c.nodes.slot - 1 in
     let is : c.nodes.slot ≡ n + 1 = omega (arith, c.nodes-test.true) in
@@ -56,6 +57,7 @@ nodes-preserved-then-not-keep g c =
           called left (λ j low. node_below kind old.graph n (slot_inside old.graph.nodes n w at) j low);
       looks = ap (λ z. z.looks) without ∙ c.nodes.invariant.looks;
       acyclic = c.remove_node.ensures.acyclic;
+      keeps = λ is. keeps_on _ _ _ (c.nodes.invariant.keeps is) (c.remove_node.ensures.keeps is);
     }
 
 pub nodes-preserved-else-not-keep : goal.nodes-preserved-else-not-keep
@@ -74,10 +76,11 @@ nodes-preserved-else-not-keep g c =
     } in
     record {
       asking =
-          slot_stays of (goal.F-pre g) step (λ w. w) (λ z. z.nodes) (without_node g.S.Store.KIND) c.args.keep c.args.self.now.graph
+          slot_stays of (goal.F-pre g) step (λ w. w) (λ z. z.nodes) (without_node g.S.ReadStore.KIND) c.args.keep c.args.self.now.graph
           c.nodes.keep graph c.nodes.slot n is c.nodes.invariant.asking w c.keep.new.self at called;
       looks = search rules;
       acyclic = c.nodes.invariant.acyclic;
+      keeps = c.nodes.invariant.keeps;
     }
 
 pub nodes-preserved : goal.nodes-preserved
@@ -86,15 +89,16 @@ nodes-preserved g c =
     let is : c.nodes.slot ≡ n + 1 = omega (arith, c.nodes-test.true) in
     record {
       asking =
-          vacant_slot g.Ix.IndexType.of (goal.F-pre g) (goal.F-step g) (λ w. w) (λ z. z.nodes) (without_node g.S.Store.KIND)
+          vacant_slot g.Ix.IndexType.of (goal.F-pre g) (goal.F-step g) (λ w. w) (λ z. z.nodes) (without_node g.S.ReadStore.KIND)
           c.args.keep c.args.self.now.graph c.nodes.keep c.nodes.self.graph c.nodes.slot n is c.nodes.invariant.asking
           (sym (c.in_default.ensures ∙ ap (λ k. node_weight c.nodes.self.graph k) c.new-n.ensures.number));
       looks = c.nodes.invariant.looks;
       acyclic = c.nodes.invariant.acyclic;
+      keeps = c.nodes.invariant.keeps;
     }
 
 pub returns-clause-retained : goal.returns-clause-retained
 returns-clause-retained g c =
-    all_asked g.Ix.IndexType.of (goal.F-pre g) (goal.F-step g) (λ w. w) (λ z. z.nodes) (without_node g.S.Store.KIND)
+    all_asked g.Ix.IndexType.of (goal.F-pre g) (goal.F-step g) (λ w. w) (λ z. z.nodes) (without_node g.S.ReadStore.KIND)
     c.args.keep c.args.self.now.graph c.nodes.keep c.nodes.self.graph c.nodes.slot (omega (arith, c.nodes-test.false))
     c.nodes.invariant.asking

@@ -135,7 +135,7 @@ returns-clause-others g c =
 pub returns-clause-keeps : goal.returns-clause-keeps
 returns-clause-keeps g c =
     let at = (goal.at.returns-clause-keeps g c).After-make_way_for_parents in
-    let P : Graph g.row.N.Denot g.row.E.Denot → Type 0 = λ z. OnOk c.replace_parents.result (g.S.Store.KIND ≡ Stable
+    let P : Graph g.row.N.Denot g.row.E.Denot → Type 0 = λ z. OnOk c.replace_parents.result (g.S.ReadStore.KIND ≡ Stable
     → KeepsOtherEdges (g.Ix.IndexType.number c.args.n) z (g.S.EdgeSource.graph c.replace_parents.new.store)) in
     subst P (view g at) c.replace_parents.ensures.keeps
 

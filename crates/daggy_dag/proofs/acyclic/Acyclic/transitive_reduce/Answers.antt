@@ -25,9 +25,9 @@ abbrev new : (g : Over) → After-transitive_reduce g → Graph g.row.N.Denot g.
 new g c = g.S.EdgeSource.graph c.transitive_reduce.new.store
 
 reduced : (g : Over) (c : After-transitive_reduce g)
-    → OnOk c.transitive_reduce.result (IsReduction g.S.Store.KIND (roots g c) (old g c) (new g c))
+    → OnOk c.transitive_reduce.result (IsReduction g.S.ReadStore.KIND (roots g c) (old g c) (new g c))
 reduced g c =
-    subst (λ z. OnOk c.transitive_reduce.result (IsReduction g.S.Store.KIND z (old g c) (new g c)))
+    subst (λ z. OnOk c.transitive_reduce.result (IsReduction g.S.ReadStore.KIND z (old g c) (new g c)))
     (ap (map g.Ix.IndexType.number) c.as_slice.ensures.value) c.transitive_reduce.ensures.reduced
 
 acyclic : (g : Over) (c : After-transitive_reduce g) → IsAcyclic (old g c)
@@ -35,7 +35,7 @@ acyclic g c = acyclic_from_order _ c.self-inside.invariant.0
 
 -- what holds of the stored graph, and a reduction gives, holds of the dag
 shown : (g : Over) (c : After-transitive_reduce g) (P : Graph g.row.N.Denot g.row.E.Denot → Type 0)
-    → (IsReduction g.S.Store.KIND (roots g c) (old g c) (new g c) → P (old g c))
+    → (IsReduction g.S.ReadStore.KIND (roots g c) (old g c) (new g c) → P (old g c))
     → OnOk c.transitive_reduce.result (P c.args.self.now.graph)
 shown g c P law =
     let Q : State g.row.N.Denot g.row.E.Denot → Type 0 = λ s. OnOk c.transitive_reduce.result (P s.graph) in
@@ -45,48 +45,48 @@ pub returns-clause-reachability : goal.returns-clause-reachability
 returns-clause-reachability g c =
     let at = (goal.at.returns-clause-reachability g c).After-transitive_reduce in
     shown g at (λ z. HaveSameReachability z (new g at))
-    (law_reachability g.S.Store.KIND (roots g at) (old g at) (new g at)
+    (law_reachability g.S.ReadStore.KIND (roots g at) (old g at) (new g at)
     (acyclic g at) c.transitive_reduce.ensures.well_formed)
 
 pub returns-clause-covers : goal.returns-clause-covers
 returns-clause-covers g c =
     let at = (goal.at.returns-clause-covers g c).After-transitive_reduce in
     shown g at (λ z. JoinsCovers (roots g at) z (new g at))
-    (law_covers g.S.Store.KIND (roots g at) (old g at) (new g at)
+    (law_covers g.S.ReadStore.KIND (roots g at) (old g at) (new g at)
     (acyclic g at) c.transitive_reduce.ensures.well_formed)
 
 pub returns-clause-others : goal.returns-clause-others
 returns-clause-others g c =
     let at = (goal.at.returns-clause-others g c).After-transitive_reduce in
     shown g at (λ z. JoinsOthers (roots g at) z (new g at))
-    (law_others g.S.Store.KIND (roots g at) (old g at) (new g at)
+    (law_others g.S.ReadStore.KIND (roots g at) (old g at) (new g at)
     (acyclic g at) c.transitive_reduce.ensures.well_formed)
 
 pub returns-clause-least : goal.returns-clause-least
 returns-clause-least g c =
     let at = (goal.at.returns-clause-least g c).After-transitive_reduce in
     shown g at (λ z. IsLeast (roots g at) z (new g at))
-    (law_least g.S.Store.KIND (roots g at) (old g at) (new g at)
+    (law_least g.S.ReadStore.KIND (roots g at) (old g at) (new g at)
     (acyclic g at) c.transitive_reduce.ensures.well_formed)
 
 pub returns-clause-none_left : goal.returns-clause-none_left
 returns-clause-none_left g c =
     let at = (goal.at.returns-clause-none_left g c).After-transitive_reduce in
-    on_ok c.transitive_reduce.result (law_none g.S.Store.KIND (roots g at) (old g at) (new g at)
+    on_ok c.transitive_reduce.result (law_none g.S.ReadStore.KIND (roots g at) (old g at) (new g at)
     (acyclic g at) c.transitive_reduce.ensures.well_formed) (reduced g at)
 
 pub returns-clause-canonical : goal.returns-clause-canonical
 returns-clause-canonical g c =
     let at = (goal.at.returns-clause-canonical g c).After-transitive_reduce in
     shown g at (λ z. IsCanonical g.Ix.IndexType.greatest (roots g at) z (new g at))
-    (law_canonical g.S.Store.KIND (roots g at) (old g at) (new g at)
+    (law_canonical g.S.ReadStore.KIND (roots g at) (old g at) (new g at)
     (acyclic g at) c.transitive_reduce.ensures.well_formed)
 
 pub returns-clause-keeps : goal.returns-clause-keeps
 returns-clause-keeps g c =
     let at = (goal.at.returns-clause-keeps g c).After-transitive_reduce in
-    shown g at (λ z. (g.S.Store.KIND ≡ Stable → KeepsIndices z (new g at)))
-    (law_indices g.S.Store.KIND (roots g at) (old g at) (new g at))
+    shown g at (λ z. (g.S.ReadStore.KIND ≡ Stable → KeepsIndices z (new g at)))
+    (law_indices g.S.ReadStore.KIND (roots g at) (old g at) (new g at))
 
 pub invariant_of-self-inside : goal.invariant_of-self-inside
 invariant_of-self-inside g c =

@@ -28,19 +28,19 @@ remove_edges-requires-clause-exist g c = λ e h.
     (listed_kept n (edges_to number n c.args.items.items) c.invariant.ensures.well_formed
     c.in-Ok-add_parents.ensures.well_formed e listed)
 
-set : (g : Over) (c : After-remove_edges g) → HasParentsSet g.S.Store.KIND (g.Ix.IndexType.number c.args.n)
+set : (g : Over) (c : After-remove_edges g) → HasParentsSet g.S.ReadStore.KIND (g.Ix.IndexType.number c.args.n)
     (edges_to g.Ix.IndexType.number (g.Ix.IndexType.number c.args.n) c.args.items.items)
     (g.S.EdgeSource.graph c.args.store.now) (g.S.EdgeSource.graph c.remove_edges.new.store)
 set g c =
     let number = g.Ix.IndexType.number in
     let P : List g.row.Ix.Denot → Type 0 = λ z. IsAscending (map number z) in
-    parents_set g.S.Store.KIND _ _ _ _ (map number c.as_slice.result.now)
+    parents_set g.S.ReadStore.KIND _ _ _ _ (map number c.as_slice.result.now)
     (subst P (sym c.as_slice.ensures.value) c.in-Ok.ensures.ascending)
     (same_numbers number c.as_slice.result.now c.in-Ok.old.items
     (λ z. Contains (in_list (g.S.EdgeSource.graph c.args.store.now) (number c.args.n)) z) c.as_slice.ensures.value
     c.in-Ok.ensures.exact)
     (c.remove_edges.ensures.removed
-    ∙ ap (λ z. without_edges g.S.Store.KIND z (reverse (map number c.as_slice.result.now)))
+    ∙ ap (λ z. without_edges g.S.ReadStore.KIND z (reverse (map number c.as_slice.result.now)))
     c.in-Ok-add_parents.ensures.added)
 
 pub returns-clause-set : goal.returns-clause-set

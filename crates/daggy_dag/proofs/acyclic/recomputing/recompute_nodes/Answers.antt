@@ -1,4 +1,4 @@
-use Rattle.std.proofs.Common.{◌≡◌, ℕ, List, [], ◌∷◌, ◌++◌, refl, sym, ap, subst, ◌∙◌, append_assoc, Contains}
+use Rattle.std.proofs.Common.{◌≡◌, [], ◌∷◌, ◌++◌, refl, sym, ap, subst, ◌∙◌, append_assoc}
 use Rattle.std.specs.Borrow.{Bor}
 use Rattle.daggy_base.specs.Graph.{Graph, HasNode}
 use Rattle.daggy_base.proofs.Lists.{mem_contains, mem_mid}
@@ -9,14 +9,16 @@ use Rattle.daggy_dag.proofs.acyclic.recomputing.recompute_nodes.Given.{Over}
 use Rattle.daggy_dag.proofs.acyclic.recomputing.recompute_nodes.Goals.{In-Some}
 use Rattle.daggy_dag.proofs.acyclic.recomputing.recompute_nodes.Goals as goal
 
+-- the nodes done, the next one, and the rest
+split : (g : Over) (c : In-Some g) → c.args.nodes ≡ c.nodes.invariant.done ++ g.Ix.IndexType.number c.in-Some.n ∷ c.next.new.self
+split g c = c.nodes.invariant.split ∙ ap (λ z. c.nodes.invariant.done ++ z) c.in-Some.ensures.steps
+
 -- the next node existed from the beginning
 existed : (g : Over) (c : In-Some g) → HasNode (g.S.EdgeSource.graph c.args.store.now) (g.Ix.IndexType.number c.in-Some.n)
 existed g c =
     let n = g.Ix.IndexType.number c.in-Some.n in
     let s = c.nodes.invariant in
-    let P : List ℕ → Type 0 = λ z. Contains z n in
-    let here : c.args.nodes ≡ s.done ++ n ∷ c.next.new.self = s.split ∙ ap (λ z. s.done ++ z) c.in-Some.ensures.steps in
-    c.requires.exist n (subst P (sym here) (mem_contains _ n (mem_mid s.done c.next.new.self n)))
+    c.requires.exist n (rw (split g c) (mem_contains _ n (mem_mid s.done c.next.new.self n)))
 
 -- and exists now
 exists : (g : Over) (c : In-Some g) → HasNode (g.S.EdgeSource.graph c.nodes.store) (g.Ix.IndexType.number c.in-Some.n)
@@ -29,11 +31,14 @@ nodes-init g c =
 pub f-weight-requires : goal.f-weight-requires
 f-weight-requires g c =
     let n = g.Ix.IndexType.number c.in-Some.n in
-    let there = existed g c in
+    let s = c.nodes.invariant in
+    let at = (goal.at.f-weight-requires g c).In-Some in
+    let there = existed g at in
     let shown : Bor g.row.S.Denot = record { ref_ptr = c.args.store.ref_ptr; now = c.nodes.store } in
     let P : g.row.Ix.Denot → Type 0 = λ z. g.F.Fn.pre c.args.f.now (shown, (z, tt)) in
     subst P (g.Ix.IndexType.of_number c.in-Some.n)
-    (c.requires.callable shown c.nodes.invariant.alike n there (below_bound (g.S.EdgeSource.graph c.args.store.now).nodes n there))
+    (c.requires.callable s.done c.next.new.self n shown (split g at) s.so_far s.alike there
+    (below_bound (g.S.EdgeSource.graph c.args.store.now).nodes n there))
 
 pub node_mut-requires : goal.node_mut-requires
 node_mut-requires g c = exists g (goal.at.node_mut-requires g c).In-Some

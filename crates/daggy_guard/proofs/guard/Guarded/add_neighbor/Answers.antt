@@ -13,7 +13,7 @@ use Rattle.daggy_guard.proofs.guard.Guarded.add_neighbor.Goals as goal
 
 -- the node is new
 added : (g : Over) (c : In-Ok g)
-    → IsAddedNode g.Ix.IndexType.greatest g.S.Store.KIND (g.S.EdgeSource.graph c.self.inside.store)
+    → IsAddedNode g.Ix.IndexType.greatest g.S.ReadStore.KIND (g.S.EdgeSource.graph c.self.inside.store)
     (g.S.EdgeSource.graph c.put_node.new.store) c.args.weight (g.Ix.IndexType.number c.in-Ok.new)
     c.node_slots-slot_count.result
 added g c =
@@ -22,7 +22,7 @@ added g c =
 
 -- and still is where no edge could be added
 still_added : (g : Over) (c : In-Err-link g)
-    → IsAddedNode g.Ix.IndexType.greatest g.S.Store.KIND (g.S.EdgeSource.graph c.self.inside.store)
+    → IsAddedNode g.Ix.IndexType.greatest g.S.ReadStore.KIND (g.S.EdgeSource.graph c.self.inside.store)
     (g.S.EdgeSource.graph c.link.new.store) c.args.weight (g.Ix.IndexType.number c.in-Ok.new)
     c.node_slots-slot_count.result
 still_added g c =

@@ -11,7 +11,7 @@ pub take_out-requires-clause-last : goal.take_out-requires-clause-last
 take_out-requires-clause-last g c fewer =
     let exists : HasNode (g.S.EdgeSource.graph c.self.inside.store) (g.Ix.IndexType.number c.args.n) = search rules in
     last_there c.invariant.ensures.well_formed c.self.invariant.0 _ exists _
-    c.node_slots-slot_count.ensures g.S.Store.KIND c.in_ok-weight.ensures.removed c.node_slots.ensures
+    c.node_slots-slot_count.ensures g.S.ReadStore.KIND c.in_ok-weight.ensures.removed c.node_slots.ensures
     c.invariant.ensures.compact fewer
 
 pub take_out-requires-clause-lower : goal.take_out-requires-clause-lower
@@ -23,7 +23,7 @@ pub invariant_of-self-2 : goal.invariant_of-self-2
 invariant_of-self-2 g c =
     let exists : HasNode (g.S.EdgeSource.graph c.self.inside.store) (g.Ix.IndexType.number c.args.n) = search rules in (
       order_of_removed c.invariant.ensures.well_formed c.self.invariant.0 _ exists _
-          c.node_slots-slot_count.ensures g.S.Store.KIND c.in_ok-weight.ensures.between c.in_ok-weight.ensures.removed
+          c.node_slots-slot_count.ensures g.S.ReadStore.KIND c.in_ok-weight.ensures.between c.in_ok-weight.ensures.removed
           c.node_slots.ensures c.take_out.ensures.moved c.take_out.ensures.stayed,
       search rules,
     )

@@ -1,6 +1,6 @@
-use Rattle.std.proofs.Common.{rules, ◌≡◌, ◌∷◌, ℕ, length, sym, ap, ◌∙◌, arith}
+use Rattle.std.proofs.Common.{rules, ◌≡◌, ◌∷◌, length, sym, ap, ◌∙◌, arith}
 use Rattle.daggy_base.specs.declared.index.Direction.TheVariants.{Outgoing}
-use Rattle.daggy_base.specs.Graph.{Edge, edge_at}
+use Rattle.daggy_base.specs.Graph.{edge_at}
 use Rattle.daggy_cells.specs.Referring.{referred}
 use Rattle.daggy_base.specs.Cursor.{cursor_after}
 use Rattle.daggy_dag.specs.Connecting.{connecting_from}

@@ -1,5 +1,5 @@
 use Rattle.std.proofs.Common.{ℕ, ◌-◌, ◌<◌, ◌≤◌, map, Contains}
-use Rattle.daggy_dag.proofs.acyclic.comparing.nodes_below.Given as goal
+use Rattle.daggy_dag.proofs.acyclic.reduction.nodes_below.Given as goal
 
 abbrev pub invariant-nodes : goal.invariant-nodes
 invariant-nodes g l =

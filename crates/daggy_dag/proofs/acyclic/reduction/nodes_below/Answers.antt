@@ -1,6 +1,6 @@
 use Rattle.std.proofs.Common.{arith}
 use Rattle.daggy_dag.proofs.NodesBelow.{nodes_more}
-use Rattle.daggy_dag.proofs.acyclic.comparing.nodes_below.Goals as goal
+use Rattle.daggy_dag.proofs.acyclic.reduction.nodes_below.Goals as goal
 
 pub nodes-preserved : goal.nodes-preserved
 nodes-preserved g c =
