@@ -19,7 +19,7 @@ use crate::streaming::stream_document;
 use crate::text::TextWriter;
 use crate::writing::write_document;
 use daggy_base::index::IndexType;
-use daggy_base::store::Store;
+use daggy_base::read_store::ReadStore;
 use daggy_dag::acyclic::{Acyclic, Dag, StableDag};
 use serde_json::Value;
 use std::alloc::{AllocError, Global};
@@ -30,7 +30,7 @@ fn write<
     N: Drop,
     E: Drop,
     Ix: IndexType,
-    S: Store<Ix, NodeWeight = N, EdgeWeight = E>,
+    S: ReadStore<Ix, NodeWeight = N, EdgeWeight = E>,
     F: Fn(&N) -> Result<Value, AllocError>,
     G: Fn(&E) -> Result<Value, AllocError>,
 >(alloc: Global, dag: &Acyclic<N, E, Ix, S>, fn_node: &F, fn_edge: &G) -> Result<Value, WriteError>
@@ -53,9 +53,14 @@ fn write<
 ///
 /// `fn_node` encodes the weight of a node, and `fn_edge` that of an edge.
 ///
+/// # Requires
+///
+/// - `nodes`: `fn_node` may be called with any argument, any number of times.
+/// - `edges`: `fn_edge` may be called with any argument, any number of times.
+///
 /// # Errors
 ///
-/// Returns `Memory` if an allocation fails.
+/// Returns `WriteError::Memory` if an allocation fails, here or in one of the two functions.
 ///
 /// # Complexity
 ///
@@ -81,6 +86,37 @@ pub fn dag_to_json<
 
 /// The document of a stable dag, as [`dag_to_json`] returns it. It also lists the vacant node
 /// slots, and has `null` for a vacant edge slot, both up to the greatest index in use.
+///
+/// # Requires
+///
+/// - `nodes`: `fn_node` may be called with any argument, any number of times.
+/// - `edges`: `fn_edge` may be called with any argument, any number of times.
+///
+/// # Errors
+///
+/// Returns `WriteError::Memory` if an allocation fails, here or in one of the two functions.
+///
+/// # Complexity
+///
+/// O(slots), plus the calls.
+///
+/// # Examples
+///
+/// ```
+/// let mut dag: StableDag<u32, u32> = StableDag::new(rt.alloc());
+/// let plan = dag.add_node(1)?;
+/// let sow = dag.add_node(2)?;
+/// let _child = dag.add_child(sow, 90, 3)?;
+/// assert!(rt; dag.remove_node(plan) == Some(1));
+/// let value = stable_to_json(
+///     rt.alloc(),
+///     &dag,
+///     |n| Ok(Value::from(*n)),
+///     |e| Ok(Value::from(*e)),
+/// )?;
+/// let text = value.to_vec(rt.alloc())?;
+/// assert!(rt; text.starts_with(b"{\"edge_property\":\"directed\",\"edges\":[[1,2,90]],"));
+/// ```
 pub fn stable_to_json<
     N: Drop,
     E: Drop,
@@ -106,15 +142,20 @@ pub fn stable_to_json<
 ///
 /// `fn_node` encodes the weight of a node, and `fn_edge` that of an edge.
 ///
+/// # Requires
+///
+/// - `nodes`: `fn_node` may be called with any argument, any number of times.
+/// - `edges`: `fn_edge` may be called with any argument, any number of times.
+///
 /// # Errors
 ///
-/// Returns `Memory` if one of these functions fails, otherwise `Io` with the writer's error. Then
-/// a front of the text was written.
+/// Returns `Memory` if one of these functions fails, otherwise `Io` with the writer's error. In
+/// that case a prefix of the text has been written.
 ///
 /// # Complexity
 ///
 /// O(nodes + edges), plus the calls. After an error the writer is not called again, but the rest of
-/// the dag is still gone through.
+/// the dag is still traversed.
 ///
 /// # Examples
 ///
@@ -136,7 +177,7 @@ pub fn write_json<
     N: Drop,
     E: Drop,
     Ix: IndexType,
-    S: Store<Ix, NodeWeight = N, EdgeWeight = E>,
+    S: ReadStore<Ix, NodeWeight = N, EdgeWeight = E>,
     F: Fn(&N) -> Result<Value, AllocError> + Drop,
     G: Fn(&E) -> Result<Value, AllocError> + Drop,
 >(dag: &Acyclic<N, E, Ix, S>, writer: &mut W, fn_node: F, fn_edge: G) -> Result<(), StreamError>
@@ -157,12 +198,17 @@ pub fn write_json<
     out.finish()
 }
 
-/// The dag that a value is read as: an object as [`dag_to_json`] returns it. Other members are
-/// ignored. Without `orders` each list is in descending index order. Reading a written document
-/// restores the dag: its indices, the ends of its edges and its lists, with the weights that
-/// `fn_node` and `fn_edge` return for the encoded ones.
+/// Reads a dag from a value in the format of [`dag_to_json`]. Unknown members are ignored. Without
+/// `orders` each list is in descending index order. Reading a written document restores the dag:
+/// its indices, the ends of its edges and its lists, with the weights that `fn_node` and `fn_edge`
+/// return for the encoded ones.
 ///
 /// `fn_node` and `fn_edge` read the weights, and return `None` for a value that is not a weight.
+///
+/// # Requires
+///
+/// - `nodes`: `fn_node` may be called with any argument, any number of times.
+/// - `edges`: `fn_edge` may be called with any argument, any number of times.
 ///
 /// # Errors
 ///
@@ -171,6 +217,23 @@ pub fn write_json<
 /// # Complexity
 ///
 /// O(nodes + edges), plus the calls.
+///
+/// # Examples
+///
+/// ```
+/// let mut dag: Dag<u32, u32> = Dag::new(rt.alloc());
+/// let sow = dag.add_node(1)?;
+/// let (days, _) = dag.add_child(sow, 90, 2)?;
+/// let value = dag_to_json(
+///     rt.alloc(),
+///     &dag,
+///     |n| Ok(Value::from(*n)),
+///     |e| Ok(Value::from(*e)),
+/// )?;
+/// let weight = |value: &Value| Ok(value.as_u64().and_then(|w| u32::try_from(w).ok()));
+/// let read: Dag<u32, u32> = dag_from_json(rt.alloc(), &value, weight, weight)?;
+/// assert!(rt; read.edge_weight(days) == Some(&90));
+/// ```
 pub fn dag_from_json<
     N: Drop,
     E: Drop,
@@ -203,14 +266,23 @@ pub fn dag_from_json<
     read(alloc, value, &fn_node, &fn_edge)
 }
 
-/// The stable dag that a value is read as, as [`dag_from_json`] reads a dag. Node slots are vacant
-/// at the holes, and edge slots at `null`; the highest vacant slot is reused first. So a written
-/// document restores the dag but for the order of its vacant slots, and those after the greatest
-/// index in use.
+/// Reads a stable dag from a value, as [`dag_from_json`] reads a dag. Node slots are vacant at the
+/// holes, and edge slots at `null`; the highest vacant slot is reused first. So a written document
+/// restores the dag but for the order of its vacant slots, and those after the greatest index in
+/// use.
+///
+/// # Requires
+///
+/// - `nodes`: `fn_node` may be called with any argument, any number of times.
+/// - `edges`: `fn_edge` may be called with any argument, any number of times.
 ///
 /// # Errors
 ///
 /// Returns the first fault of the value, or `Memory` if an allocation fails.
+///
+/// # Complexity
+///
+/// O(slots), plus the calls.
 pub fn stable_from_json<
     N: Drop,
     E: Drop,

@@ -30,9 +30,9 @@ pub enum StreamError {
 /// entries are checked one by one, each for its shape, its endpoints and its weight.
 #[derive(Clone, Copy, Debug, Drop, Eq, Error, PartialEq)]
 pub enum ReadError {
-    /// It is no object, `nodes` or `edges` is no array, `edge_property` is no text, or `node_holes`
-    /// is no array of whole numbers. Or an entry of an edge is no array of two whole numbers and a
-    /// weight, nor `null` for a vacant slot.
+    /// A value or a member has the wrong type. The value must be an object, `nodes` and `edges`
+    /// arrays, `edge_property` a text, `node_holes` an array of whole numbers, and each entry of
+    /// `edges` an array of two whole numbers and a weight, or `null` for a vacant slot.
     #[error("wrong shape")]
     Shape,
     /// `edge_property` is not `directed`.
@@ -44,13 +44,13 @@ pub enum ReadError {
     /// The index type has too few indices.
     #[error("no index left")]
     Full,
-    /// A function that reads weights refused one.
+    /// A function that reads weights returned `None`.
     #[error("wrong weight")]
     Weight,
     /// An edge has an end that does not exist.
     #[error("no such endpoint")]
     BadEndpoint,
-    /// `orders` is not a rearrangement of each node's lists.
+    /// `orders` does not permute the lists of each node.
     #[error("wrong orders")]
     Orders,
     /// The graph has a cycle.

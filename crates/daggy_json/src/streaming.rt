@@ -11,7 +11,7 @@ ghost use Rattle.daggy_json.specs.Passing.{IsArrayOf};
 use crate::text::TextWriter;
 use crate::values::write_weight;
 use daggy_base::index::{Direction, EdgeIndex, IndexType, NodeIndex};
-use daggy_base::store::Store;
+use daggy_base::read_store::ReadStore;
 use daggy_visit::prefetch::{PREFETCH_FROM, touch_lists};
 use json::Token;
 use serde_json::Value;
@@ -25,7 +25,7 @@ const AHEAD: usize = 32;
 fn stream_entry<
     W: Write,
     Ix: IndexType,
-    S: Store<Ix>,
+    S: ReadStore<Ix>,
     G: Fn(&S::EdgeWeight) -> Result<Value, AllocError>,
 >(store: &S, e: EdgeIndex<Ix>, fn_edge: &G, out: &mut TextWriter<'_, W>)
     requires { G.IsAlwaysCallable fn_edge.now }
@@ -50,7 +50,7 @@ fn stream_entry<
 fn stream_entries<
     W: Write,
     Ix: IndexType,
-    S: Store<Ix>,
+    S: ReadStore<Ix>,
     G: Fn(&S::EdgeWeight) -> Result<Value, AllocError>,
 >(store: &S, fn_edge: &G, out: &mut TextWriter<'_, W>)
     requires { G.IsAlwaysCallable fn_edge.now }
@@ -70,7 +70,7 @@ fn stream_entries<
 }
 
 // The indices of the vacant nodes below the bound, ascending.
-fn stream_holes<W: Write, Ix: IndexType, S: Store<Ix>>(store: &S, out: &mut TextWriter<'_, W>)
+fn stream_holes<W: Write, Ix: IndexType, S: ReadStore<Ix>>(store: &S, out: &mut TextWriter<'_, W>)
     ensures { Writes W.contents out.old out.new
         (AreTokensOf (wholes (holes_of (S.graph store.now)))) }
 {
@@ -90,7 +90,7 @@ fn stream_holes<W: Write, Ix: IndexType, S: Store<Ix>>(store: &S, out: &mut Text
 fn stream_weights<
     W: Write,
     Ix: IndexType,
-    S: Store<Ix>,
+    S: ReadStore<Ix>,
     F: Fn(&S::NodeWeight) -> Result<Value, AllocError>,
 >(store: &S, fn_node: &F, out: &mut TextWriter<'_, W>)
     requires { F.IsAlwaysCallable fn_node.now }
@@ -111,7 +111,7 @@ fn stream_weights<
 }
 
 // A list of a node, first edge first.
-fn stream_list<W: Write, Ix: IndexType, S: Store<Ix>>(
+fn stream_list<W: Write, Ix: IndexType, S: ReadStore<Ix>>(
     store: &S,
     n: NodeIndex<Ix>,
     dir: Direction,
@@ -132,7 +132,7 @@ fn stream_list<W: Write, Ix: IndexType, S: Store<Ix>>(
 }
 
 // The lists of a node.
-fn stream_row<W: Write, Ix: IndexType, S: Store<Ix>>(
+fn stream_row<W: Write, Ix: IndexType, S: ReadStore<Ix>>(
     store: &S,
     n: NodeIndex<Ix>,
     out: &mut TextWriter<'_, W>,
@@ -148,7 +148,7 @@ fn stream_row<W: Write, Ix: IndexType, S: Store<Ix>>(
 
 // Reads ahead the lists of that direction of the nodes from `from` up to `to`. The answer is always
 // true.
-fn touch_side<Ix: IndexType, S: Store<Ix>>(
+fn touch_side<Ix: IndexType, S: ReadStore<Ix>>(
     store: &S,
     from: usize,
     to: usize,
@@ -167,7 +167,7 @@ fn touch_side<Ix: IndexType, S: Store<Ix>>(
 }
 
 // Reads ahead both lists of the nodes from `from` up to `to`. The answer is always true.
-fn touch_nodes<Ix: IndexType, S: Store<Ix>>(store: &S, from: usize, to: usize) -> bool
+fn touch_nodes<Ix: IndexType, S: ReadStore<Ix>>(store: &S, from: usize, to: usize) -> bool
     requires { to ≤ Ix.greatest }
     ensures { IsTrue result }
 {
@@ -176,7 +176,7 @@ fn touch_nodes<Ix: IndexType, S: Store<Ix>>(store: &S, from: usize, to: usize) -
 }
 
 // The lists of the nodes, by ascending index.
-fn stream_orders<W: Write, Ix: IndexType, S: Store<Ix>>(store: &S, out: &mut TextWriter<'_, W>)
+fn stream_orders<W: Write, Ix: IndexType, S: ReadStore<Ix>>(store: &S, out: &mut TextWriter<'_, W>)
     ensures { Writes W.contents out.old out.new (AreTokensOf
         (listed (map (row_of (S.graph store.now)) (node_identifiers (S.graph store.now))))) }
 {
@@ -205,7 +205,7 @@ fn stream_orders<W: Write, Ix: IndexType, S: Store<Ix>>(store: &S, out: &mut Tex
 pub(crate) fn stream_document<
     W: Write,
     Ix: IndexType,
-    S: Store<Ix>,
+    S: ReadStore<Ix>,
     F: Fn(&S::NodeWeight) -> Result<Value, AllocError>,
     G: Fn(&S::EdgeWeight) -> Result<Value, AllocError>,
 >(store: &S, fn_node: &F, fn_edge: &G, out: &mut TextWriter<'_, W>)

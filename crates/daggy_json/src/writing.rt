@@ -10,16 +10,16 @@ ghost use Rattle.daggy_json.specs.Document.{IsDocumentOf};
 ghost use Rattle.daggy_json.specs.Weight.{WritesAs};
 
 use daggy_base::index::{Direction, EdgeIndex, IndexType, NodeIndex};
-use daggy_base::store::Store;
+use daggy_base::read_store::ReadStore;
 use serde_json::{Value, json};
 use std::alloc::{AllocError, Global};
 
 // The encoded weights of the nodes, by ascending index.
-fn write_weights<Ix: IndexType, S: Store<Ix>, F: Fn(&S::NodeWeight) -> Result<Value, AllocError>>(
-    alloc: Global,
-    store: &S,
-    fn_node: &F,
-) -> Result<Vec<Value>, AllocError>
+fn write_weights<
+    Ix: IndexType,
+    S: ReadStore<Ix>,
+    F: Fn(&S::NodeWeight) -> Result<Value, AllocError>,
+>(alloc: Global, store: &S, fn_node: &F) -> Result<Vec<Value>, AllocError>
     requires { F.IsAlwaysCallable fn_node.now }
     ensures { IfOk result
         (λ v. AllZip (WritesAs F.Fn fn_node.now) (node_weights (S.graph store.now))
@@ -38,7 +38,7 @@ fn write_weights<Ix: IndexType, S: Store<Ix>, F: Fn(&S::NodeWeight) -> Result<Va
 }
 
 // The indices of the vacant nodes below the bound, ascending.
-fn write_holes<Ix: IndexType, S: Store<Ix>>(
+fn write_holes<Ix: IndexType, S: ReadStore<Ix>>(
     alloc: Global,
     store: &S,
 ) -> Result<Vec<Value>, AllocError>
@@ -73,7 +73,7 @@ fn write_triple(
 }
 
 // The entry of an edge slot.
-fn write_entry<Ix: IndexType, S: Store<Ix>, G: Fn(&S::EdgeWeight) -> Result<Value, AllocError>>(
+fn write_entry<Ix: IndexType, S: ReadStore<Ix>, G: Fn(&S::EdgeWeight) -> Result<Value, AllocError>>(
     alloc: Global,
     store: &S,
     e: EdgeIndex<Ix>,
@@ -95,11 +95,11 @@ fn write_entry<Ix: IndexType, S: Store<Ix>, G: Fn(&S::EdgeWeight) -> Result<Valu
 }
 
 // The entries of the edge slots below the bound.
-fn write_entries<Ix: IndexType, S: Store<Ix>, G: Fn(&S::EdgeWeight) -> Result<Value, AllocError>>(
-    alloc: Global,
-    store: &S,
-    fn_edge: &G,
-) -> Result<Vec<Value>, AllocError>
+fn write_entries<
+    Ix: IndexType,
+    S: ReadStore<Ix>,
+    G: Fn(&S::EdgeWeight) -> Result<Value, AllocError>,
+>(alloc: Global, store: &S, fn_edge: &G) -> Result<Vec<Value>, AllocError>
     requires { G.IsAlwaysCallable fn_edge.now }
     ensures { IfOk result (λ v. AllZip (IsEntry (WritesAs G.Fn fn_edge.now))
         (take (edge_bound (S.graph store.now)) (S.graph store.now).edges) (map view v.items)) }
@@ -117,7 +117,7 @@ fn write_entries<Ix: IndexType, S: Store<Ix>, G: Fn(&S::EdgeWeight) -> Result<Va
 }
 
 // A list of a node, first edge first.
-fn write_list<Ix: IndexType, S: Store<Ix>>(
+fn write_list<Ix: IndexType, S: ReadStore<Ix>>(
     alloc: Global,
     store: &S,
     n: NodeIndex<Ix>,
@@ -138,7 +138,7 @@ fn write_list<Ix: IndexType, S: Store<Ix>>(
 }
 
 // The lists of a node.
-fn write_row<Ix: IndexType, S: Store<Ix>>(
+fn write_row<Ix: IndexType, S: ReadStore<Ix>>(
     alloc: Global,
     store: &S,
     n: NodeIndex<Ix>,
@@ -155,7 +155,7 @@ fn write_row<Ix: IndexType, S: Store<Ix>>(
 }
 
 // The lists of the nodes, by ascending index.
-fn write_orders<Ix: IndexType, S: Store<Ix>>(
+fn write_orders<Ix: IndexType, S: ReadStore<Ix>>(
     alloc: Global,
     store: &S,
 ) -> Result<Vec<Value>, AllocError>
@@ -206,7 +206,7 @@ fn assemble(
 /// O(nodes + edges), plus the calls.
 pub fn write_document<
     Ix: IndexType,
-    S: Store<Ix>,
+    S: ReadStore<Ix>,
     F: Fn(&S::NodeWeight) -> Result<Value, AllocError>,
     G: Fn(&S::EdgeWeight) -> Result<Value, AllocError>,
 >(alloc: Global, store: &S, fn_node: &F, fn_edge: &G) -> Result<Value, AllocError>

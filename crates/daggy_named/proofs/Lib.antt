@@ -5,3 +5,5 @@ pub mod Added
 pub mod Removed
 pub mod Written
 pub mod Depended
+pub mod NamedNodes
+pub mod DependenciesGone

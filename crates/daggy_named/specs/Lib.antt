@@ -2,3 +2,4 @@ pub mod Naming
 pub mod Places
 pub mod Refused
 pub mod Lends
+pub mod Asked

@@ -34,16 +34,17 @@ impl<K, N> AddError<K, N> {
 /// A dependency was not added. It holds the weight of its edge.
 #[derive(Debug, Drop, Eq, Error, PartialEq)]
 pub enum DependError<E> {
-    /// No node has the key of what is needed.
+    /// No node has the key of the node to depend on.
     #[error("no node has the key of what is needed")]
     UnknownDependency(E),
-    /// No node has the key of what needs it.
+    /// No node has the key of the dependent node.
     #[error("no node has the key of what needs it")]
     UnknownDependent(E),
     /// The index type has no index left.
     #[error("no index left")]
     Full(E),
-    /// What is needed needs the other already, so the edge would close a cycle.
+    /// The node to depend on is the dependent one or already depends on it, so the edge would close
+    /// a cycle.
     #[error("would close a cycle")]
     WouldCycle(E),
     /// Out of memory for the edge.

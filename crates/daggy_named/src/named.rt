@@ -31,18 +31,26 @@ use std::alloc::{AllocError, Global};
 use std::hash::Hash;
 use std::marker::Model;
 
-/// A dag in which each node has a key of its own, by which calls name it.
+mod changes;
+mod dependencies;
+mod keys;
+mod questions;
+
+pub use dependencies::Dependency;
+pub use keys::{Keys, NeighborKeys};
+
+/// A dag in which each node has a unique key, by which methods refer to it.
 ///
-/// Nodes have indices too, which outlive removals. What a [`StableDag`] answers about them,
-/// [`dag`](Named::dag) answers.
+/// Nodes also have indices, which outlive removals: [`dag`](Named::dag) returns the [`StableDag`]
+/// inside.
 ///
-/// A call that looks up a key takes a `&K` or an equivalent value, as the look-ups of `IndexMap` do: a
+/// Methods that look up a key take a `&K` or an equivalent value, like the lookups of `IndexMap`: a
 /// `&str` if the keys are `String`s.
 ///
 /// # Complexity
 ///
-/// The key of a node is found in O(1), and the node of a key in O(1) on average. Otherwise a call
-/// costs as much as the call of the dag that it makes: `add_node`, `add_edge`, `path` or
+/// The key of a node is found in O(1), and the node of a key in O(1) on average. Other methods cost
+/// as much as the method of the dag that they call: `add_node`, `add_edge`, `path` or
 /// `remove_node`.
 ///
 /// # Examples
@@ -94,7 +102,9 @@ impl<K: Eq + Hash + Drop, N: Drop, E: Drop, Ix: IndexType> Named<K, N, E, Ix> {
         }
     }
 
-    /// The dag, to read.
+    /// A shared reference to the dag inside, for all methods that take `&StableDag`. Those that
+    /// take `&mut StableDag`, such as `reaches` and `path`, cannot be called on it; use `paths` of
+    /// the dag instead.
     pub fn dag(&self) -> &StableDag<N, E, Ix>
         ensures { result.now.graph ≡ self.now.graph }
     {
@@ -119,6 +129,10 @@ impl<K: Eq + Hash + Drop, N: Drop, E: Drop, Ix: IndexType> Named<K, N, E, Ix> {
     }
 
     /// The index of the node with this key, or `None` if there is none.
+    ///
+    /// # Complexity
+    ///
+    /// O(1) on average: one hash lookup.
     pub fn index_of<Q: Equivalent<K>>(&self, key: Q) -> Option<NodeIndex<Ix>>
         ensures found { option_map Ix.number result ≡ index_by (Q.equivalent key) self.now.keys }
         ensures exists { IfSome result (λ n. HasNode self.now.graph (Ix.number n)) }
@@ -136,6 +150,10 @@ impl<K: Eq + Hash + Drop, N: Drop, E: Drop, Ix: IndexType> Named<K, N, E, Ix> {
     }
 
     /// The weight of the node with this key, or `None` if there is none.
+    ///
+    /// # Complexity
+    ///
+    /// O(1) on average: one hash lookup.
     pub fn weight<Q: Equivalent<K>>(&self, key: Q) -> Option<&N>
         ensures { option_copied result ≡ weight_by (Q.equivalent key) self.now }
     {
@@ -151,6 +169,10 @@ impl<K: Eq + Hash + Drop, N: Drop, E: Drop, Ix: IndexType> Named<K, N, E, Ix> {
     /// - `AddError::Taken` if a node has the key.
     /// - `AddError::Full` if the index type has no index left.
     /// - `AddError::Memory` if an allocation fails.
+    ///
+    /// # Complexity
+    ///
+    /// Amortized O(1) on average, like insertion into a hash map.
     pub fn add(&mut self, key: K, weight: N) -> Result<NodeIndex<Ix>, AddError<K, N>>
         ensures taken { (result ≡ Err (refused.Taken key weight))
             ↔ IsSome (index_in K.eq self.old.keys key) }
@@ -194,6 +216,10 @@ impl<K: Eq + Hash + Drop, N: Drop, E: Drop, Ix: IndexType> Named<K, N, E, Ix> {
     ///
     /// - `AddError::Full` if the index type has no index left.
     /// - `AddError::Memory` if an allocation fails.
+    ///
+    /// # Complexity
+    ///
+    /// The same as [`add`](Named::add).
     pub fn get_or_add(&mut self, key: K, weight: N) -> Result<NodeIndex<Ix>, AddError<K, N>>
         ensures present { IfSome (index_in K.eq self.old.keys key) (λ n.
             IsOkAnd result (λ r. Ix.number r ≡ n) × (self.new ≡ self.old)) }
@@ -228,6 +254,10 @@ impl<K: Eq + Hash + Drop, N: Drop, E: Drop, Ix: IndexType> Named<K, N, E, Ix> {
     /// - `DependError::WouldCycle` if a path leads from `what` to `on`, so that the edge would close
     ///   a cycle. [`cycle`](Named::cycle) returns such a path.
     /// - `DependError::Memory` if an allocation fails.
+    ///
+    /// # Complexity
+    ///
+    /// Two hash lookups, plus the cost of `add_edge` of the dag.
     pub fn depend<Q: Equivalent<K>>(
         &mut self,
         on: Q,
@@ -271,7 +301,7 @@ impl<K: Eq + Hash + Drop, N: Drop, E: Drop, Ix: IndexType> Named<K, N, E, Ix> {
     }
 
     /// A shortest path from the node with the key `what` to the node with the key `on`: with the
-    /// edge that [`depend`](Named::depend) refuses, it is a cycle. `None` if there is no such path,
+    /// edge that [`depend`](Named::depend) rejects, it is a cycle. `None` if there is no such path,
     /// or no such node.
     ///
     /// The dag is unchanged; the call needs `&mut self` because it searches in memory of the dag.
@@ -279,6 +309,10 @@ impl<K: Eq + Hash + Drop, N: Drop, E: Drop, Ix: IndexType> Named<K, N, E, Ix> {
     /// # Errors
     ///
     /// Returns `AllocError` if the memory for the path cannot be allocated.
+    ///
+    /// # Complexity
+    ///
+    /// Two hash lookups, plus the cost of `path` of the dag.
     ///
     /// # Examples
     ///
@@ -313,6 +347,10 @@ impl<K: Eq + Hash + Drop, N: Drop, E: Drop, Ix: IndexType> Named<K, N, E, Ix> {
     }
 
     /// A mutable reference to the weight of the node with this key, or `None` if there is none.
+    ///
+    /// # Complexity
+    ///
+    /// O(1) on average: one hash lookup.
     pub fn weight_mut<Q: Equivalent<K>>(&mut self, key: Q) -> Option<&mut N>
         ensures* writes_back { sem 𝓛 (lends_weight K.row N.row E.row Ix.row
             K.Hash Ix.IndexType Ix.Clone self.entry (Q.equivalent key) result) }
@@ -326,6 +364,10 @@ impl<K: Eq + Hash + Drop, N: Drop, E: Drop, Ix: IndexType> Named<K, N, E, Ix> {
     /// if there is no such node.
     ///
     /// No other index changes, and the next node that is added gets this one.
+    ///
+    /// # Complexity
+    ///
+    /// One hash lookup, plus the cost of `remove_node` of the dag.
     pub fn remove<Q: Equivalent<K>>(&mut self, key: Q) -> Option<(K, N)>
         ensures removed { IfSome (index_by (Q.equivalent key) self.old.keys) (λ n.
             (option_map (λ r. r.0) result ≡ key_at self.old.keys n)

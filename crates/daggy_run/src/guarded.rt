@@ -49,7 +49,8 @@ pub trait GuardedDag<N, E, Ix: IndexType> {
 
     ghost KIND: { Kind };
 
-    /// What a removal does with a slot.
+    /// Which kind of dag it is: `Kind::Compact` if a removal moves the last element into the freed
+    /// index, `Kind::Stable` if it leaves the slot vacant.
     const KIND: Kind;
 
     /// Whether the node exists.
@@ -67,6 +68,18 @@ pub trait GuardedDag<N, E, Ix: IndexType> {
         ensures dag { IsDag Ix.greatest (graph self.now) };
 
     /// Adds a node without edges, and returns its index.
+    ///
+    /// # Requires
+    ///
+    /// - The index type has an index left for one more node. Test: `can_add_node()`.
+    ///
+    /// # Errors
+    ///
+    /// Returns `NodeError::Memory` with the weight if an allocation fails; the dag is unchanged.
+    ///
+    /// # Complexity
+    ///
+    /// Amortized O(1).
     fn add_node(&mut self, weight: N) -> Result<NodeIndex<Ix>, NodeError<N>>
         requires { node_count_of (graph self.old) < Ix.greatest }
         ensures added { IfOk result (λ n. (Ix.number n ≡ next_node (graph self.old))
@@ -75,8 +88,24 @@ pub trait GuardedDag<N, E, Ix: IndexType> {
         ensures unchanged { OnErr result (graph self.new ≡ graph self.old) }
         ensures acyclic { IsAcyclic (graph self.new) };
 
-    /// Adds an edge from `a` to `b`, and returns its index. Apart from `Memory`, it fails if and
-    /// only if it would close a cycle.
+    /// Adds an edge from `a` to `b`, and returns its index.
+    ///
+    /// # Requires
+    ///
+    /// - `parent`: `a` is a node of the dag. Test: `has_node(a)`.
+    /// - `child`: `b` is a node of the dag. Test: `has_node(b)`.
+    /// - `index_left`: The index type has an index left for one more edge. Test: `can_add_edge()`.
+    ///
+    /// # Errors
+    ///
+    /// Returns `EdgeError::WouldCycle` if `b` reaches `a`, or is `a` itself, and
+    /// `EdgeError::Memory` if an allocation fails. Each error holds the weight, and the dag is
+    /// unchanged.
+    ///
+    /// # Complexity
+    ///
+    /// The same as `add_edge` of a dag: O(1) if `a` precedes `b` in its order, and otherwise a
+    /// search.
     fn add_edge(
         &mut self,
         a: NodeIndex<Ix>,
@@ -96,8 +125,25 @@ pub trait GuardedDag<N, E, Ix: IndexType> {
         ensures acyclic { IsAcyclic (graph self.new) };
 
     /// Replaces the weight of the edge that [`find_edge`](GuardedDag::find_edge) returns for `a`
-    /// and `b`, or adds an edge as [`add_edge`](GuardedDag::add_edge) does if there is none. If
-    /// there is such an edge it cannot fail.
+    /// and `b`, or adds an edge as [`add_edge`](GuardedDag::add_edge) does if there is none.
+    /// Returns the index of that edge.
+    ///
+    /// # Requires
+    ///
+    /// - `parent`: `a` is a node of the dag. Test: `has_node(a)`.
+    /// - `child`: `b` is a node of the dag. Test: `has_node(b)`.
+    /// - `index_left`: If no edge leads from `a` to `b` yet, the index type has an index left for
+    ///   one more edge. Test: `can_add_edge()`.
+    ///
+    /// # Errors
+    ///
+    /// Returns the errors of [`add_edge`](GuardedDag::add_edge), and only if no edge leads from `a`
+    /// to `b`. Each error holds the weight, and the dag is unchanged.
+    ///
+    /// # Complexity
+    ///
+    /// The cost of [`find_edge`](GuardedDag::find_edge), plus the cost of
+    /// [`add_edge`](GuardedDag::add_edge) if there is no such edge.
     fn update_edge(
         &mut self,
         a: NodeIndex<Ix>,
@@ -122,7 +168,25 @@ pub trait GuardedDag<N, E, Ix: IndexType> {
         ensures unchanged { OnErr result (graph self.new ≡ graph self.old) }
         ensures acyclic { IsAcyclic (graph self.new) };
 
-    /// Adds a node and an edge from `parent` to it, or neither. Returns both indices.
+    /// Adds a node and an edge from `parent` to it, or neither. Returns the indices of the edge and
+    /// of the node.
+    ///
+    /// # Requires
+    ///
+    /// - `parent`: `parent` is a node of the dag. Test: `has_node(parent)`.
+    /// - `edge_index_left`: The index type has an index left for one more edge. Test:
+    ///   `can_add_edge()`.
+    /// - `node_index_left`: The index type has an index left for one more node. Test:
+    ///   `can_add_node()`.
+    ///
+    /// # Errors
+    ///
+    /// Returns `ChildError::Memory` with both weights if an allocation fails; the dag is unchanged.
+    /// The edge never closes a cycle.
+    ///
+    /// # Complexity
+    ///
+    /// Amortized O(1).
     fn add_child(
         &mut self,
         parent: NodeIndex<Ix>,
@@ -140,7 +204,25 @@ pub trait GuardedDag<N, E, Ix: IndexType> {
         ensures unchanged { OnErr result (graph self.new ≡ graph self.old) }
         ensures acyclic { IsAcyclic (graph self.new) };
 
-    /// Adds a node and an edge from it to `child`, or neither. Returns both indices.
+    /// Adds a node and an edge from it to `child`, or neither. Returns the indices of the edge and
+    /// of the node.
+    ///
+    /// # Requires
+    ///
+    /// - `child`: `child` is a node of the dag. Test: `has_node(child)`.
+    /// - `edge_index_left`: The index type has an index left for one more edge. Test:
+    ///   `can_add_edge()`.
+    /// - `node_index_left`: The index type has an index left for one more node. Test:
+    ///   `can_add_node()`.
+    ///
+    /// # Errors
+    ///
+    /// Returns `ChildError::Memory` with both weights if an allocation fails; the dag is unchanged.
+    /// The edge never closes a cycle.
+    ///
+    /// # Complexity
+    ///
+    /// Amortized O(1).
     fn add_parent(
         &mut self,
         child: NodeIndex<Ix>,
@@ -158,7 +240,21 @@ pub trait GuardedDag<N, E, Ix: IndexType> {
         ensures unchanged { OnErr result (graph self.new ≡ graph self.old) }
         ensures acyclic { IsAcyclic (graph self.new) };
 
-    /// Adds all the edges, or none of them. Returns their indices in input order.
+    /// Adds all the edges, or none of them. Returns their indices in the order of `edges`. Unlike
+    /// [`add_edge`](GuardedDag::add_edge) it requires nothing: an endpoint that does not exist is
+    /// an error.
+    ///
+    /// # Errors
+    ///
+    /// The first edge that cannot be added decides: `EdgesError::BadEndpoint` if an endpoint of it
+    /// does not exist, `EdgesError::Full` if no index is left for it, and `EdgesError::Memory` if
+    /// an allocation fails. If there is none, `EdgesError::WouldCycle` if all edges together close
+    /// a cycle. Each error holds the weights of the edges up to the one that failed, and the dag is
+    /// unchanged.
+    ///
+    /// # Complexity
+    ///
+    /// The same as `add_edges` of a dag: O(nodes + edges) edges are read.
     fn add_edges(&mut self, edges: Vec<NewEdge<E, Ix>>) -> Result<Vec<EdgeIndex<Ix>>, EdgesError<E>>
         ensures added { IfOk result (λ indices. AddsAll Ix.greatest (graph self.old)
             (map (by_numbers Ix.number) edges.items) (map Ix.number indices.items)
@@ -169,6 +265,10 @@ pub trait GuardedDag<N, E, Ix: IndexType> {
         ensures acyclic { IsAcyclic (graph self.new) };
 
     /// The newest edge from `a` to `b`, or `None` if there is none.
+    ///
+    /// # Complexity
+    ///
+    /// O(edges that leave `a`).
     fn find_edge(&self, a: NodeIndex<Ix>, b: NodeIndex<Ix>) -> Option<EdgeIndex<Ix>>
         ensures found { option_map Ix.number result
             ≡ edge_between (graph self.now) (Ix.number a) (Ix.number b) }
@@ -181,6 +281,10 @@ pub trait GuardedDag<N, E, Ix: IndexType> {
             ≡ option_map ends_of (edge_at (graph self.now) (Ix.number e)) };
 
     /// Removes a node with its edges and returns its weight, or `None` if there is no such node.
+    ///
+    /// # Complexity
+    ///
+    /// The same as `remove_node` of a dag.
     fn remove_node(&mut self, n: NodeIndex<Ix>) -> Option<N>
         ensures value { result ≡ weight_at (graph self.old) (Ix.number n) }
         ensures removed { OnSome result
@@ -189,6 +293,10 @@ pub trait GuardedDag<N, E, Ix: IndexType> {
         ensures acyclic { IsAcyclic (graph self.new) };
 
     /// Removes an edge and returns its weight, or `None` if there is no such edge.
+    ///
+    /// # Complexity
+    ///
+    /// The same as `remove_edge` of a dag.
     fn remove_edge(&mut self, e: EdgeIndex<Ix>) -> Option<E>
         ensures value { result ≡ edge_weight_at (graph self.old) (Ix.number e) }
         ensures removed { OnSome result
@@ -201,6 +309,10 @@ pub trait GuardedDag<N, E, Ix: IndexType> {
     /// # Errors
     ///
     /// Returns `AllocError` if an allocation fails.
+    ///
+    /// # Complexity
+    ///
+    /// O(children).
     fn children(&self, n: NodeIndex<Ix>) -> Result<Vec<Neighbor<Ix>>, AllocError>
         ensures { IfOk result (λ items. map (pair_of Ix.number) items.items
             ≡ walk_of Outgoing (graph self.now) (Ix.number n)) };
@@ -210,16 +322,28 @@ pub trait GuardedDag<N, E, Ix: IndexType> {
     /// # Errors
     ///
     /// Returns `AllocError` if an allocation fails.
+    ///
+    /// # Complexity
+    ///
+    /// O(parents).
     fn parents(&self, n: NodeIndex<Ix>) -> Result<Vec<Neighbor<Ix>>, AllocError>
         ensures { IfOk result (λ items. map (pair_of Ix.number) items.items
             ≡ walk_of Incoming (graph self.now) (Ix.number n)) };
 
     /// Removes all edges, and keeps the nodes.
+    ///
+    /// # Complexity
+    ///
+    /// O(slots).
     fn clear_edges(&mut self)
         ensures cleared { graph self.new ≡ without_all_edges (graph self.old) }
         ensures acyclic { IsAcyclic (graph self.new) };
 
     /// Removes all nodes and edges.
+    ///
+    /// # Complexity
+    ///
+    /// O(slots).
     fn clear(&mut self)
         ensures cleared { graph self.new ≡ empty }
         ensures acyclic { IsAcyclic (graph self.new) };
@@ -228,7 +352,11 @@ pub trait GuardedDag<N, E, Ix: IndexType> {
     ///
     /// # Errors
     ///
-    /// Returns `AllocError` if an allocation fails.
+    /// Returns `AllocError` if an allocation fails; the dag is unchanged.
+    ///
+    /// # Complexity
+    ///
+    /// The same as `transitive_reduce` of a dag.
     fn transitive_reduce(&mut self, roots: Vec<NodeIndex<Ix>>) -> Result<(), AllocError>
         ensures reduced { OnOk result
             (IsReduction KIND (map Ix.number roots.items) (graph self.old) (graph self.new)) }
@@ -236,6 +364,10 @@ pub trait GuardedDag<N, E, Ix: IndexType> {
         ensures acyclic { IsAcyclic (graph self.new) };
 
     /// One more than the greatest node index, or 0 if there is no node.
+    ///
+    /// # Complexity
+    ///
+    /// O(1), plus the vacant slots after that node.
     fn node_bound(&self) -> usize
         ensures value { result ≡ node_bound_of (graph self.now) }
         ensures fits { node_bound_of (graph self.now) ≤ Ix.greatest }
@@ -246,14 +378,23 @@ pub trait GuardedDag<N, E, Ix: IndexType> {
         ensures { Ix.number result
             ≡ first_of Ix.greatest (out_list (graph self.now) (Ix.number n)) };
 
-    /// The child of an edge, and the edge that left its parent before it, or `end` if there is
-    /// none.
+    /// The child of an edge, and the next edge in the out list of its parent, or `end` if it is the
+    /// last. With [`first_child`](GuardedDag::first_child) it iterates over the children of a node
+    /// without allocating.
+    ///
+    /// # Requires
+    ///
+    /// - `e` is an edge of the dag. Test: `edge_endpoints(e).is_some()`.
     fn child_edge(&self, e: EdgeIndex<Ix>) -> (NodeIndex<Ix>, EdgeIndex<Ix>)
         requires { HasEdge (graph self.now) (Ix.number e) }
         ensures { IsLook Ix.greatest (graph self.now) (Ix.number e) (Ix.number result.0)
             (Ix.number result.1) };
 
-    /// The nodes in topological order, in O(nodes).
+    /// The nodes in topological order: each after its parents.
+    ///
+    /// # Complexity
+    ///
+    /// O(nodes) for the whole iteration.
     fn topological_order(&self) -> TopologicalOrder<'_, Ix>
         ensures ordered { IsOrderOf (graph self.now) result }
         ensures fits { length result < 2 ^ 64 };

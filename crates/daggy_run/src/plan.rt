@@ -20,6 +20,21 @@ pub mod stages;
 /// # Complexity
 ///
 /// O(node slots + edges).
+///
+/// # Examples
+///
+/// ```
+/// let mut dag: Dag<&'static str, u32> = Dag::new(rt.alloc());
+/// let sow = dag.add_node("sow")?;
+/// let (_, reap) = dag.add_child(sow, 90, "reap")?;
+/// let mend = dag.add_node("mend the fence")?;
+/// let plan = plan(rt.alloc(), &dag)?;
+/// assert!(rt; plan.stages.len() == 2);
+/// let first = plan.stages.get(0);
+/// assert!(rt; first.is_some_and(|stage| stage.as_slice() == [sow, mend].as_slice()));
+/// // No plan can have fewer stages than this path has nodes.
+/// assert!(rt; plan.chain.as_slice() == [sow, reap].as_slice());
+/// ```
 pub fn plan<N, E, Ix: IndexType, D: GuardedDag<N, E, Ix>>(
     alloc: Global,
     dag: &D,

@@ -17,6 +17,25 @@ use std::alloc::Global;
 /// # Errors
 ///
 /// Returns the commands if memory for the replies cannot be allocated; none was carried out.
+///
+/// # Complexity
+///
+/// The cost of [`perform`] for each command.
+///
+/// # Examples
+///
+/// ```
+/// let mut dag: Dag<u32, u32> = Dag::new(rt.alloc());
+/// let sow = NodeIndex::new(0);
+/// let mut commands = Vec::new(rt.alloc());
+/// commands.push(Command::Node(1))?;
+/// commands.push(Command::Child(sow, 90, 2))?;
+/// commands.push(Command::Edge(NodeIndex::new(1), sow, 5))?;
+/// match run(rt.alloc(), &mut dag, commands) {
+///     Ok(replies) => assert!(rt; replies.get(2) == Some(&Reply::Cycle(5))),
+///     Err(_commands) => return Err(AllocError.into()),
+/// }
+/// ```
 pub fn run<N: Drop, E: Drop, Ix: IndexType, D: GuardedDag<N, E, Ix>>(
     alloc: Global,
     dag: &mut D,

@@ -141,6 +141,21 @@ fn walk<N: Drop, E: Drop, Ix: IndexType>(
 ///
 /// If an endpoint of a new edge does not exist, the reply is `Missing`; otherwise, if no index is
 /// left, it is `Full`; otherwise, if a cycle would be closed, `Cycle` or `CycleAll`.
+///
+/// # Complexity
+///
+/// The cost of the method of the dag that carries out the command.
+///
+/// # Examples
+///
+/// ```
+/// let mut dag: Dag<u32, u32> = Dag::new(rt.alloc());
+/// let sow = NodeIndex::new(0);
+/// assert!(rt; perform(&mut dag, Command::Node(1)) == Reply::Node(sow));
+/// // There is no node 5.
+/// let reply = perform(&mut dag, Command::Edge(sow, NodeIndex::new(5), 90));
+/// assert!(rt; reply == Reply::Missing(Back::Edge(90)));
+/// ```
 pub fn perform<N: Drop, E: Drop, Ix: IndexType, D: GuardedDag<N, E, Ix>>(
     dag: &mut D,
     command: Command<N, E, Ix>,

@@ -7,6 +7,8 @@ pub mod Keeping
 pub mod Idle
 pub mod UnderWay
 pub mod Starting
+pub mod Elsewhere
+pub mod LowestLast
 pub mod Passing
 pub mod Delays
 pub mod Timing
@@ -27,3 +29,4 @@ pub mod Graham
 pub mod KeysFrom
 pub mod Gathered
 pub mod ByKeys
+pub mod Reweighed

@@ -13,7 +13,7 @@ use Rattle.daggy_base.proofs.Lists.{Mem, Unique, mem_out, split_at, contains_mem
 use Rattle.daggy_schedule.specs.Work.{Work, IsSet, is_among}
 use Rattle.daggy_schedule.specs.Times.{span, TakesTooLong, AreFeasible, AreDoneBy, IsCritical}
 use Rattle.daggy_schedule.specs.LeastFirst.{nodes_of}
-use Rattle.daggy_schedule.specs.Assignments.{IsWithinBound, TakeTooLong}
+use Rattle.daggy_schedule.specs.Assignments.{IsWithinBound, HasLongBound}
 use Rattle.daggy_schedule.proofs.Members.{among_in, among_out}
 use Rattle.daggy_schedule.proofs.Ordering.{mem_shuffled}
 use Rattle.daggy_schedule.proofs.Shift.{HasBegun, finish}
@@ -62,11 +62,21 @@ module _ {N E : Type 0} {g : Graph N E} {order : List ℕ} (ord : IsOrderOf g or
       let P : ℕ → Type 0 = λ z. HasNode g z in
       elim m [ inl e ↦ subst P (sym e) p.0 | inr b ↦ path_exists (v ∷ rest) p.2 x b ]
 
-pub too_long : {N E : Type 0} (g : Graph N E) (d : List ℕ) → TakesTooLong g d → TakeTooLong g d
-too_long g d t order ord =
-    let within = span_within d t.0 order (path_unique ord t.0 t.1) (λ x m.
-    contains_mem order x ((ord.exact x).1 (path_exists ord t.0 t.1 x m))) in
-    omega (arith, within, t.2)
+one_less : (c i : ℕ) → 0 < c → c * i ≡ (c - 1) * i + i
+one_less c i h = let is : c ≡ (c - 1) + 1 = omega (arith, h) in omega (arith, ap (λ z. z * i) is)
+
+pub path_too_long : {N E : Type 0} (g : Graph N E) (d : List ℕ) (count : ℕ) → 0 < count → TakesTooLong g d
+    → HasLongBound g d count
+path_too_long g d count some t =
+    record {
+      path = t.0;
+      joined = t.1;
+      long = λ order ord.
+          (let within = span_within d t.0 order (path_unique ord t.0 t.1) (λ x m.
+          contains_mem order x ((ord.exact x).1 (path_exists ord t.0 t.1 x m))) in
+          let each : count * 2 ^ 64 ≤ count * span d t.0 = mul-le-mul_left count t.2 in
+          omega (arith, within, each, one_less count (span d t.0) some));
+    }
 
 -- what is left to do of the nodes that are being done
 abbrev pub left_of : (now : ℕ) → List (ℕ × ℕ) → ℕ
@@ -216,15 +226,33 @@ module _ {N E : Type 0} {g : Graph N E} {d est : List ℕ} {count : ℕ} {work :
       }
 
   -- it would finish too late
-  pub begins_too_long : (n f : ℕ) → HasNode g n → f ≡ now + get_or d n 0 → 2 ^ 64 ≤ f → (HasBegun work running n → ⊥)
-      → ((m : ℕ) → HasBegun work running m → HasNode g m) → TakeTooLong g d
-  begins_too_long n f has at long unbegun exists order ord =
-      let within = span_within d (n ∷ s.begun) order (λ m. unbegun ((s.begun_are n).0 m), s.once) (λ x m.
-      contains_mem order x ((ord.exact x).1 (elim m [
-        | inl same ↦ (let P : ℕ → Type 0 = λ z. HasNode g z in subst P (sym same) has)
-        | inr b ↦ exists x ((s.begun_are x).0 b)
-      ]))) in
-      omega (arith, within, s.busy, at, long)
+  pub begins_too_long : (n : ℕ) → HasNode g n → 2 ^ 64 ≤ now + get_or d n 0 → Mem n (nodes_of waiting)
+      → (HasBegun work running n → ⊥) → ((m : ℕ) → HasBegun work running m → HasNode g m) → (path : List ℕ) (longest : ℕ)
+      → IsCritical g d path longest → AreDoneBy g d (λ n. get_or est n 0) longest → 0 < count → HasLongBound g d count
+  begins_too_long n has long waits unbegun exists path longest critical met some =
+      record {
+        path = path;
+        joined = elim critical.path [ inl p ↦ p | inr none ↦ absurd (none.1 n has) ];
+        long = λ order ord.
+            (let within = span_within d (n ∷ s.begun) order (λ m. unbegun ((s.begun_are n).0 m), s.once) (λ x m.
+            contains_mem order x ((ord.exact x).1 (elim m [
+              | inl same ↦ (let P : ℕ → Type 0 = λ z. HasNode g z in subst P (sym same) has)
+              | inr b ↦ exists x ((s.begun_are x).0 b)
+            ]))) in
+            let low : s.idle + get_or d n 0 ≤ longest = omega (arith, s.waits n waits, met n has) in
+            let share : (count - 1) * (s.idle + get_or d n 0) ≤ (count - 1) * longest = mul-le-mul_left (count - 1) low in
+            let each : count * 2 ^ 64 ≤ count * (now + get_or d n 0) = mul-le-mul_left count long in
+            omega (
+              arith,
+              within,
+              s.load,
+              share,
+              each,
+              one_less count s.idle some,
+              one_less count (get_or d n 0) some,
+              ap (λ z. (count - 1) * z) critical.sum,
+            ));
+      }
 
   -- the next node is finished
   module _ (feasible : AreFeasible g d (λ n. get_or est n 0)) (new : Work) (left : List (ℕ × ℕ)) (f n : ℕ)
@@ -346,9 +374,6 @@ module _ {N E : Type 0} {g : Graph N E} {d est : List ℕ} {count : ℕ} {work :
               | inr r ↦ (let P : List (ℕ × ℕ) → Type 0 = λ z. Mem x (nodes_of z) in absurd (subst P none_runs r))
             ]))) in
             let share : (count - 1) * s.idle ≤ (count - 1) * longest = mul-le-mul_left (count - 1) low in
-            let whole : count * s.idle ≡ (count - 1) * s.idle + s.idle = parts count s.idle some in
+            let whole = one_less count s.idle some in
             omega (arith, s.load, within, share, whole));
       }
-    where
-      parts : (c i : ℕ) → 0 < c → c * i ≡ (c - 1) * i + i
-      parts c i h = let is : c ≡ (c - 1) + 1 = omega (arith, h) in omega (arith, ap (λ z. z * i) is)

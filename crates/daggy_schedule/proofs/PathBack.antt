@@ -7,7 +7,7 @@ use Rattle.daggy_base.specs.Path.{AreJoined, IsPath}
 use Rattle.daggy_base.specs.WellFormed.{IsWellFormed}
 use Rattle.daggy_base.proofs.OutEdgesRead.{below_bound}
 use Rattle.daggy_base.proofs.PathsWithNode.{bound_low}
-use Rattle.daggy_schedule.specs.Times.{span}
+use Rattle.daggy_schedule.specs.Times.{span, IsLowestLast, AreWaitedFor, IsTracedBack}
 use Rattle.daggy_schedule.specs.Passes.{AreNoted}
 
 turned : (ns : List ℕ) (n : ℕ) → reverse (ns ++ n ∷ []) ≡ n ∷ reverse ns
@@ -27,6 +27,9 @@ pub record Chaining {N E : Type 0} (end : ℕ) (g : Graph N E) (parents : List �
   pub exists : HasNode g n
   pub sum : (d starts finishes : List ℕ) → AreNoted end g d starts parents finishes
       → span d (reverse pushed) + get_or finishes n 0 ≡ get_or finishes last 0
+  pub waited_for : (d starts finishes : List ℕ) → AreNoted end g d starts parents finishes
+      → IsLowestLast (HasNode g) (λ m. get_or finishes m 0) last
+      → AreWaitedFor g (λ m. get_or finishes m 0) (n ∷ reverse pushed)
 
 pub not_end : {N E : Type 0} {end : ℕ} {g : Graph N E} → IsWellFormed end g → (n : ℕ) → HasNode g n → n ≢ end
 not_end {g = g} w n h e = omega (arith, below_bound g.nodes n h, bound_low g.nodes, w.few_nodes, e)
@@ -51,6 +54,13 @@ module _ {N E : Type 0} {end : ℕ} {g : Graph N E} (w : IsWellFormed end g) {pa
               | inr k ↦
                   omega (arith, s.sum d ss fs a, ap (span d) (turned pushed n), a.takes n s.exists, k.1)
             ];
+        waited_for = λ d ss fs a l.
+            elim (a.noted n s.exists) [
+              | inl none ↦ absurd (apart (is ∙ none.0))
+              | inr k ↦
+                  (let P : List ℕ → Type 0 = λ z. AreWaitedFor g (λ m. get_or fs m 0) (q ∷ z) in
+                  subst P (sym (turned pushed n)) (k.0, s.waited_for d ss fs a l))
+            ];
       } in
       rw (more, is) whole
 
@@ -65,5 +75,24 @@ module _ {N E : Type 0} {end : ℕ} {g : Graph N E} (w : IsWellFormed end g) {pa
           | inl k ↦ omega (arith, ap (span d) (is ∙ turned pushed n), a.takes n s.exists, k.1, s.sum d ss fs a)
           | inr k ↦
               (let H : ℕ → Type 0 = λ z. HasNode g z in
-              absurd (not_end w end (subst H none (w.parents k.0.0 _ k.0.2)) refl))
+              absurd (not_end w end (subst H none (w.parents k.0.here.0 _ k.0.here.2)) refl))
         ]
+
+    pub chain_traced : get_or parents n 0 ≡ end → (d starts finishes : List ℕ)
+        → IsLowestLast (HasNode g) (λ m. get_or finishes m 0) last → AreNoted end g d starts parents finishes
+        → IsTracedBack g (λ m. get_or finishes m 0) chain
+    chain_traced none d ss fs l a =
+        let whole : chain ≡ n ∷ reverse pushed = is ∙ turned pushed n in
+        let P : List ℕ → Type 0 = λ z. AreWaitedFor g (λ m. get_or fs m 0) z in
+        let H : ℕ → Type 0 = λ z. HasNode g z in
+        record {
+          waited_for = subst P (sym whole) (s.waited_for d ss fs a l);
+          first = λ m rest at u j.
+              (let both : n ∷ reverse pushed ≡ m ∷ rest = sym whole ∙ at in
+              let same : m ≡ n = cc in
+              let J : ℕ → Type 0 = λ z. AreJoined g u z in
+              elim (a.noted n s.exists) [
+                | inl k ↦ k.2 u (subst J same j)
+                | inr k ↦ absurd (not_end w end (subst H none (w.parents k.0.here.0 _ k.0.here.2)) refl)
+              ]);
+        }

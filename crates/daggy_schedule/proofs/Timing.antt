@@ -1,7 +1,6 @@
 -- Nodes that get their times in the order of a graph.
 use Rattle.std.proofs.Common.{◌≡◌, ◌≢◌, ℕ, ◌+◌, ◌<◌, ◌≤◌, ◌⊎◌, ◌^◌, inl, inr, List, [], ◌∷◌, ◌++◌, length, get_or, set, replicate}
 use Rattle.std.proofs.Common.{refl, sym, ap, subst, ◌∙◌, arith, append_assoc, append-nil}
-use Rattle.std.proofs.lemmas.Bool.{cases_lt}
 use Rattle.std.proofs.lemmas.List.{get_or-set_same, get_or-set_other, get_or-replicate}
 use Rattle.daggy_base.specs.Graph.{Graph, HasNode, node_bound}
 use Rattle.daggy_base.specs.Path.{AreJoined, IsPath, end_of}
@@ -10,10 +9,12 @@ use Rattle.daggy_base.specs.WellFormed.{IsWellFormed, AreDistinct}
 use Rattle.daggy_base.proofs.Lists.{Mem, mem_left, mem_right, mem_cases, mem_mid, mem_contains, contains_mem}
 use Rattle.daggy_base.proofs.Lists.{unique_from_distinct}
 use Rattle.daggy_base.proofs.OutEdgesRead.{below_bound}
+use Rattle.daggy_base.proofs.PathsWithNode.{bound_low}
 use Rattle.daggy_base.proofs.LongerPaths.{path_more}
 use Rattle.daggy_base.proofs.Sorted.{place_left, place_right, unique_cross}
-use Rattle.daggy_schedule.specs.Times.{span, AreFeasible, AreEarliest, TakesTooLong}
-use Rattle.daggy_schedule.specs.Passes.{AreDelayed, AreNoted, IsLast}
+use Rattle.daggy_schedule.specs.Times.{span, AreFeasible, AreEarliest, TakesTooLong, IsLowestLast}
+use Rattle.daggy_schedule.specs.Passes.{AreDelayed, AreNoted, IsLast, GoesBefore}
+use Rattle.daggy_schedule.proofs.LowestLast.{goes_after, before_or_not, lowest_kept, lowest_added, all_after, GoesAfter}
 
 span_more : (d xs : List ℕ) (n : ℕ) → span d (xs ++ n ∷ []) ≡ span d xs + get_or d n 0
 span_more d [] n = omega arith
@@ -37,12 +38,14 @@ pub record Timing {N E : Type 0} (end : ℕ) (g : Graph N E) (order d starts par
   pub split : order ≡ done ++ waiting
   pub above : (u v : ℕ) → Mem u done → AreJoined g u v → get_or finishes u 0 ≤ get_or starts v 0
   pub takes : (u : ℕ) → Mem u done → get_or starts u 0 + get_or d u 0 ≡ get_or finishes u 0
-  pub noted : (v : ℕ) → HasNode g v → ((get_or parents v 0 ≡ end) × (get_or starts v 0 ≡ 0))
-      ⊎ (Mem (get_or parents v 0) done × AreJoined g (get_or parents v 0) v
+  pub noted : (v : ℕ) → HasNode g v
+      → ((get_or parents v 0 ≡ end) × (get_or starts v 0 ≡ 0) × ((u : ℕ) → Mem u done → ¬ AreJoined g u v))
+      ⊎ (IsLowestLast (λ u. Mem u done × AreJoined g u v) (λ u. get_or finishes u 0) (get_or parents v 0)
       × (get_or finishes (get_or parents v 0) 0 ≡ get_or starts v 0))
   pub reached : (n : ℕ) → Mem n done → Ends g d n (get_or finishes n 0)
   pub most : (n : ℕ) → Mem n done → get_or finishes n 0 ≤ makespan
-  pub latest : ((done ≡ []) × (makespan ≡ 0) × (last ≡ end)) ⊎ (Mem last done × (get_or finishes last 0 ≡ makespan))
+  pub latest : ((done ≡ []) × (makespan ≡ 0) × (last ≡ end))
+      ⊎ (IsLowestLast (λ u. Mem u done) (λ u. get_or finishes u 0) last × (get_or finishes last 0 ≡ makespan))
 
 pub timing_none : {N E : Type 0} (end : ℕ) (g : Graph N E) (order d : List ℕ) {k e time last : ℕ} → k ≡ node_bound g
     → e ≡ end → time ≡ 0 → last ≡ end
@@ -55,7 +58,7 @@ timing_none end g order d {k} {e} is es zero at =
       takes = λ u m. absurd m;
       noted = λ v h.
           (let low : v < k = omega (arith, below_bound g.nodes v h, is) in
-          inl (get_or-replicate k v e 0 low ∙ es, get_or-replicate k v 0 0 low));
+          inl (get_or-replicate k v e 0 low ∙ es, get_or-replicate k v 0 0 low, λ u m. absurd m));
       reached = λ n m. absurd m;
       most = λ n m. absurd m;
       latest = inl (refl, zero, at);
@@ -91,8 +94,8 @@ module _ {N E : Type 0} {end : ℕ} {g : Graph N E} (w : IsWellFormed end g) {or
         | inl none ↦ (n, [], next_exists, refl, omega (arith, none.1))
         | inr p ↦
             (let from = ends_more g d (get_or parents n 0) n (get_or finishes (get_or parents n 0) 0)
-            (s.reached (get_or parents n 0) p.0) p.1 next_exists in
-            (from.0, from.1, from.2, from.3, omega (arith, from.4, p.2)))
+            (s.reached (get_or parents n 0) p.0.here.0) p.0.here.1 next_exists in
+            (from.0, from.1, from.2, from.3, omega (arith, from.4, p.1)))
       ]
 
   pub takes_too_long : 2 ^ 64 ≤ get_or starts n 0 + get_or d n 0 → TakesTooLong g d
@@ -100,8 +103,8 @@ module _ {N E : Type 0} {end : ℕ} {g : Graph N E} (w : IsWellFormed end g) {or
 
   pub timing_one : (finish : ℕ) → finish ≡ get_or starts n 0 + get_or d n 0 → (i : ℕ) → i ≡ n → n < length finishes
       → {starts' parents' : List ℕ} → AreDelayed g n finish starts parents starts' parents'
-      → {makespan' last' : ℕ} → (finish < makespan → (makespan' ≡ makespan) × (last' ≡ last))
-      → (makespan ≤ finish → (makespan' ≡ finish) × (last' ≡ n))
+      → {makespan' last' : ℕ} → (¬ GoesBefore finish n makespan last → (makespan' ≡ makespan) × (last' ≡ last))
+      → (GoesBefore finish n makespan last → (makespan' ≡ finish) × (last' ≡ n))
       → Timing end g order d starts' parents' (set finishes i finish) makespan' last' rest
   timing_one finish sum i at low {starts'} {parents'} delayed {makespan'} {last'} later taken =
       let finishes' = set finishes n finish in
@@ -121,10 +124,31 @@ module _ {N E : Type 0} {end : ℕ} {g : Graph N E} (w : IsWellFormed end g) {or
       let into : (u : ℕ) → Mem u s.done → Mem u (s.done ++ n ∷ []) = λ u m. mem_left s.done (n ∷ []) u m in
       let last_in : Mem n (s.done ++ n ∷ []) = mem_right s.done (n ∷ []) n (inl refl) in
       let bound : (makespan ≤ makespan') × (finish ≤ makespan') =
-      elim (cases_lt finish makespan) [
-        | inl less ↦ (let h = later less in (omega (arith, h.0), omega (arith, h.0, less)))
-        | inr enough ↦ (let h = taken enough in (omega (arith, h.0, enough), omega (arith, h.0)))
+      elim (before_or_not finish n makespan last) [
+        | inl before ↦
+            (let h = taken before in
+            elim before [
+              | inl more ↦ (omega (arith, h.0, more), omega (arith, h.0))
+              | inr same ↦ (omega (arith, h.0, same.0), omega (arith, h.0))
+            ])
+        | inr not ↦
+            (let h = later not in
+            elim (goes_after not) [
+              | inl less ↦ (omega (arith, h.0), omega (arith, h.0, less))
+              | inr same ↦ (omega (arith, h.0), omega (arith, h.0, same.0))
+            ])
       ] in
+      let f : ℕ → ℕ = λ u. get_or finishes u 0 in
+      let f' : ℕ → ℕ = λ u. get_or finishes' u 0 in
+      let after : (v : ℕ) → AreJoined g n v → GoesAfter finish n (get_or starts' v 0) (get_or parents' v 0) = λ v j.
+      goes_after (delayed.late v j) in
+      let late : (v : ℕ) → AreJoined g n v → finish ≤ get_or starts' v 0 = λ v j.
+      elim (after v j) [ inl less ↦ omega (arith, less) | inr same ↦ omega (arith, same.0) ] in
+      let low_end : n < end = omega (arith, below_bound g.nodes n next_exists, bound_low g.nodes, w.few_nodes) in
+      let Was : ℕ → ℕ → Type 0 = λ v u. Mem u s.done × AreJoined g u v in
+      let Now : ℕ → ℕ → Type 0 = λ v u. Mem u (s.done ++ n ∷ []) × AreJoined g u v in
+      let parted : (v u : ℕ) → Now v u → Was v u ⊎ (u ≡ n) = λ v u h.
+      elim (cases u h.0) [ inl a ↦ inl (a, h.1) | inr e ↦ inr e ] in
       let whole : Timing end g order d starts' parents' finishes' makespan' last' rest = record {
         done = s.done ++ n ∷ [];
         split = s.split ∙ sym (append_assoc s.done (n ∷ []) rest);
@@ -133,7 +157,7 @@ module _ {N E : Type 0} {end : ℕ} {g : Graph N E} (w : IsWellFormed end g) {or
               | inl a ↦ omega (arith, other u a, s.above u v a j, delayed.up v)
               | inr e ↦
                   (let J : ℕ → Type 0 = λ z. AreJoined g z v in
-                  omega (arith, ap (λ z. get_or finishes' z 0) e, here, delayed.late v (subst J e j)))
+                  omega (arith, ap (λ z. get_or finishes' z 0) e, here, late v (subst J e j)))
             ];
         takes = λ u m.
             elim (cases u m) [
@@ -153,16 +177,43 @@ module _ {N E : Type 0} {end : ℕ} {g : Graph N E} (w : IsWellFormed end g) {or
             elim (delayed.noted v) [
               | inl k ↦
                   elim (s.noted v h) [
-                    | inl none ↦ inl (k.1 ∙ none.0, k.0 ∙ none.1)
+                    | inl none ↦
+                        inl (
+                          k.1 ∙ none.0,
+                          k.0 ∙ none.1,
+                          λ u m j. elim (cases u m) [
+                            | inl a ↦ none.2 u a j
+                            | inr e ↦
+                                (let J : ℕ → Type 0 = λ z. AreJoined g z v in
+                                elim (after v (subst J e j)) [
+                                  | inl less ↦ absurd (omega (arith, less, k.0, none.1))
+                                  | inr same ↦ absurd (omega (arith, same.1, k.1, none.0, low_end))
+                                ])
+                          ],
+                        )
                     | inr p ↦
-                        (let P : ℕ → Type 0 = λ z.
-                        Mem z (s.done ++ n ∷ []) × AreJoined g z v × (get_or finishes' z 0 ≡ get_or starts' v 0) in
-                        inr (subst P (sym k.1) (into _ p.0, p.1, other _ p.0 ∙ (p.2 ∙ sym k.0))))
+                        (let q = get_or parents v 0 in
+                        let P : ℕ → Type 0 = λ z. IsLowestLast (Now v) f' z × (f' z ≡ get_or starts' v 0) in
+                        let stands : AreJoined g n v → GoesAfter (f' n) n (f q) q = λ j.
+                        elim (after v j) [
+                          | inl less ↦ inl (omega (arith, here, less, k.0, p.1))
+                          | inr same ↦ inr (omega (arith, here, same.0, k.0, p.1), omega (arith, same.1, k.1))
+                        ] in
+                        let kept = lowest_kept {P = Was v} {Q = Now v} {f = f} {f' = f'} {n = n} (parted v)
+                        (λ u a. other u a.0) p.0 (into q p.0.here.0, p.0.here.1) (λ a. stands a.1) in
+                        inr (subst P (sym k.1) (kept, other q p.0.here.0 ∙ (p.1 ∙ sym k.0))))
                   ]
               | inr k ↦
-                  (let P : ℕ → Type 0 = λ z.
-                  Mem z (s.done ++ n ∷ []) × AreJoined g z v × (get_or finishes' z 0 ≡ get_or starts' v 0) in
-                  inr (subst P (sym k.2) (last_in, k.0, here ∙ sym k.1)))
+                  (let P : ℕ → Type 0 = λ z. IsLowestLast (Now v) f' z × (f' z ≡ get_or starts' v 0) in
+                  let A : ℕ → ℕ → Type 0 = λ u z. GoesAfter (f u) u z n in
+                  let over : (u : ℕ) → Was v u → GoesAfter (f u) u (f' n) n = λ u a.
+                  subst (A u) (sym here) (elim (s.noted v h) [
+                    | inl none ↦ absurd (none.2 u a.0 a.1)
+                    | inr p ↦ all_after {P = Was v} {f = f} p.0 p.1 k.1 u a
+                  ]) in
+                  let added = lowest_added {P = Was v} {Q = Now v} {f = f} {f' = f'} {n = n} (parted v)
+                  (λ u a. other u a.0) (last_in, k.0) over in
+                  inr (subst P (sym k.3) (added, here ∙ sym k.2)))
             ];
         reached = λ u m.
             elim (cases u m) [
@@ -179,20 +230,38 @@ module _ {N E : Type 0} {end : ℕ} {g : Graph N E} (w : IsWellFormed end g) {or
               | inr e ↦ omega (arith, ap (λ z. get_or finishes' z 0) e, here, bound.1)
             ];
         latest =
-            elim (cases_lt finish makespan) [
-              | inl less ↦
-                  (let h = later less in
+            (let P : ℕ → Type 0 = λ z. IsLowestLast (λ u. Mem u (s.done ++ n ∷ [])) f' z × (f' z ≡ makespan') in
+            let over : GoesBefore finish n makespan last → (u : ℕ) → Mem u s.done → GoesAfter (f u) u (f' n) n = λ before u a.
+            (let A : ℕ → Type 0 = λ z. GoesAfter (f u) u z n in
+            subst A (sym here) (elim s.latest [
+              | inl none ↦ (let M : List ℕ → Type 0 = λ z. Mem u z in absurd (subst M none.0 a))
+              | inr p ↦ all_after {P = λ z. Mem z s.done} {f = f} p.0 p.1 before u a
+            ])) in
+            elim (before_or_not finish n makespan last) [
+              | inl before ↦
+                  (let h = taken before in
+                  let added = lowest_added {P = λ u. Mem u s.done} {Q = λ u. Mem u (s.done ++ n ∷ [])} {f = f} {f' = f'}
+                  {n = n} cases other last_in (over before) in
+                  inr (subst P (sym h.1) (added, here ∙ sym h.0)))
+              | inr not ↦
+                  (let h = later not in
                   elim s.latest [
-                    | inl none ↦ absurd (omega (arith, none.1, less))
+                    | inl none ↦
+                        elim (goes_after not) [
+                          | inl less ↦ absurd (omega (arith, none.1, less))
+                          | inr same ↦ absurd (omega (arith, none.2, same.1, low_end))
+                        ]
                     | inr p ↦
-                        (let P : ℕ → Type 0 = λ z. Mem z (s.done ++ n ∷ []) × (get_or finishes' z 0 ≡ makespan') in
-                        inr (subst P (sym h.1) (into last p.0, other last p.0 ∙ (p.1 ∙ sym h.0))))
+                        (let stands : GoesAfter (f' n) n (f last) last =
+                        elim (goes_after not) [
+                          | inl less ↦ inl (omega (arith, here, less, p.1))
+                          | inr same ↦ inr (omega (arith, here, same.0, p.1), same.1)
+                        ] in
+                        let kept = lowest_kept {P = λ u. Mem u s.done} {Q = λ u. Mem u (s.done ++ n ∷ [])} {f = f} {f' = f'}
+                        {n = n} cases other p.0 (into last p.0.here) (λ a. stands) in
+                        inr (subst P (sym h.1) (kept, other last p.0.here ∙ (p.1 ∙ sym h.0))))
                   ])
-              | inr enough ↦
-                  (let h = taken enough in
-                  let P : ℕ → Type 0 = λ z. Mem z (s.done ++ n ∷ []) × (get_or finishes' z 0 ≡ makespan') in
-                  inr (subst P (sym h.1) (last_in, here ∙ sym h.0)))
-            ];
+            ]);
       } in
       rw at whole
 
@@ -220,7 +289,19 @@ module _ {N E : Type 0} {end : ℕ} {g : Graph N E} (w : IsWellFormed end g) {or
   all_noted =
       record {
         takes = λ n h. t.takes n (held n h);
-        noted = λ n h. elim (t.noted n h) [ inl none ↦ inl none | inr p ↦ inr (p.1, p.2) ];
+        noted = λ n h.
+            elim (t.noted n h) [
+              | inl none ↦ inl (none.0, none.1, λ u j. none.2 u (held u (w.parents j.0 _ j.2)) j)
+              | inr p ↦
+                  inr (
+                    record {
+                      here = p.0.here.1;
+                      last = λ u j. p.0.last u (held u (w.parents j.0 _ j.2), j);
+                      lowest = λ u j is. p.0.lowest u (held u (w.parents j.0 _ j.2), j) is;
+                    },
+                    p.1,
+                  )
+            ];
       }
 
   feasible_along : (start : ℕ → ℕ) → AreFeasible g d start → (x : ℕ) (rest : List ℕ) → IsPath g (x ∷ rest)
@@ -253,7 +334,15 @@ module _ {N E : Type 0} {end : ℕ} {g : Graph N E} (w : IsWellFormed end g) {or
           | inl none ↦
               (let P : List ℕ → Type 0 = λ z. (n : ℕ) → HasNode g n → Mem n z in
               inr (λ n h. absurd (subst P none.0 held n h), none.1, none.2))
-          | inr p ↦ inl (exists last p.0, p.1)
+          | inr p ↦
+              inl (
+                record {
+                  here = exists last p.0.here;
+                  last = λ u h. p.0.last u (held u h);
+                  lowest = λ u h is. p.0.lowest u (held u h) is;
+                },
+                p.1,
+              )
         ];
       }
 

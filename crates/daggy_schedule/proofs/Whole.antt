@@ -1,8 +1,9 @@
 -- A whole schedule, by its parts.
-use Rattle.std.proofs.Common.{◌≡◌, ℕ, ◌+◌, ◌<◌, ◌≤◌, ◌^◌, inl, inr, List, [], ◌∷◌, get_or, sym, ap, ◌∙◌, arith}
+use Rattle.std.proofs.Common.{◌≡◌, ℕ, ◌+◌, ◌<◌, ◌≤◌, ◌^◌, inl, inr, List, [], ◌∷◌, get_or, sym, ap, subst, ◌∙◌, arith}
 use Rattle.daggy_base.specs.Graph.{Graph, HasNode}
 use Rattle.daggy_base.specs.Path.{IsPath}
 use Rattle.daggy_schedule.specs.Times.{span, AreEarliest, IsMakespan, IsCritical, TakesTooLong}
+use Rattle.daggy_schedule.specs.Times.{IsLowestLast, IsTracedBack}
 use Rattle.daggy_schedule.specs.Passes.{AreNoted, IsLast}
 
 module _ {N E : Type 0} {end : ℕ} {g : Graph N E} {d starts parents finishes : List ℕ} {makespan last : ℕ}
@@ -17,7 +18,7 @@ module _ {N E : Type 0} {end : ℕ} {g : Graph N E} {d starts parents finishes :
         met = met;
         least = λ other earlier f by.
             elim l.is_last [
-              | inl p ↦ omega (arith, p.1, a.takes last p.0, early.least other f last p.0, by last p.0)
+              | inl p ↦ omega (arith, p.1, a.takes last p.0.here, early.least other f last p.0.here, by last p.0.here)
               | inr none ↦ omega (arith, none.1)
             ];
       }
@@ -26,11 +27,22 @@ module _ {N E : Type 0} {end : ℕ} {g : Graph N E} {d starts parents finishes :
       → (HasNode g last → span d path ≡ get_or finishes last 0) → IsCritical g d path makespan
   whole_critical path empty joined sum =
       elim l.is_last [
-        | inl p ↦ record { path = inl (joined p.0); sum = sum p.0 ∙ p.1 }
+        | inl p ↦ record { path = inl (joined p.0.here); sum = sum p.0.here ∙ p.1 }
         | inr none ↦ record {
           path = inr (empty none.2, none.0);
           sum = ap (span d) (empty none.2) ∙ sym none.1;
         }
+      ]
+
+  pub whole_traced : (path : List ℕ) → (last ≡ end → path ≡ [])
+      → (IsLowestLast (HasNode g) (λ m. get_or finishes m 0) last → IsTracedBack g (λ m. get_or finishes m 0) path)
+      → IsTracedBack g (λ m. get_or finishes m 0) path
+  whole_traced path empty traced =
+      elim l.is_last [
+        | inl p ↦ traced p.0
+        | inr none ↦
+            (let P : List ℕ → Type 0 = λ z. IsTracedBack g (λ m. get_or finishes m 0) z in
+            subst P (sym (empty none.2)) (record { waited_for = tt; first = λ n rest at u. absurd cc }))
       ]
 
   along : (x : ℕ) (rest : List ℕ) → IsPath g (x ∷ rest) → get_or starts x 0 + span d (x ∷ rest) ≤ makespan

@@ -1,5 +1,5 @@
 -- Workers at work on a graph, from one event to the next.
-use Rattle.std.proofs.Common.{◌≡◌, ℕ, ◌+◌, ◌<◌, ◌≤◌, ◌↔◌, ◌⊎◌, inl, inr, true, List, [], ◌∷◌, ◌++◌, length, get_or, set}
+use Rattle.std.proofs.Common.{◌≡◌, ℕ, ◌<◌, ◌≤◌, ◌↔◌, ◌⊎◌, inl, inr, true, List, [], ◌∷◌, ◌++◌, length, get_or, set}
 use Rattle.std.proofs.Common.{refl, sym, subst, ◌∙◌, arith, Contains, replicate}
 use Rattle.std.proofs.lemmas.List.{length-set, length-replicate}
 use Rattle.std.proofs.lemmas.List.Sorted.{IsPermutation-sym}
@@ -12,10 +12,11 @@ use Rattle.daggy_base.proofs.Lists.{Mem, mem_contains, contains_mem}
 use Rattle.daggy_base.proofs.OutEdgesRead.{below_bound}
 use Rattle.daggy_base.proofs.Sorted.{unique_cross}
 use Rattle.daggy_schedule.specs.Work.{Work, IsSet, IsOut, IsUnderWay, is_among, released}
-use Rattle.daggy_schedule.specs.Times.{AreFeasible, AreDoneBy, IsCritical}
+use Rattle.daggy_schedule.specs.Times.{AreFeasible, AreDoneBy, IsCritical, IsZeroElsewhere}
 use Rattle.daggy_schedule.specs.LeastFirst.{nodes_of}
-use Rattle.daggy_schedule.specs.Assignments.{IsAssignment, AreKeptBusy, IsWithinBound, TakeTooLong}
+use Rattle.daggy_schedule.specs.Assignments.{IsAssignment, AreKeptBusy, IsWithinBound, HasLongBound}
 use Rattle.daggy_schedule.specs.Workers.{Progress, Waits, Begins, Finishes, IsStuck, IsTooLate}
+use Rattle.daggy_schedule.proofs.Elsewhere.{zeros_elsewhere, set_elsewhere}
 use Rattle.daggy_schedule.proofs.Members.{among_in}
 use Rattle.daggy_schedule.proofs.Shift.{IsShift, HasBegun, shift_from, shift_wait, shift_begin, shift_finish, shift_done}
 use Rattle.daggy_schedule.proofs.Shift.{later, finishes_at, all_done}
@@ -35,6 +36,8 @@ pub record IsWorking {N E : Type 0} (g : Graph N E) (d est : List ℕ) (latest :
   pub keen : AreKeen g d count work progress.running progress.starts progress.workers progress.now
   pub starts_long : length progress.starts ≡ node_bound g
   pub workers_long : length progress.workers ≡ node_bound g
+  pub starts_elsewhere : IsZeroElsewhere g progress.starts
+  pub workers_elsewhere : IsZeroElsewhere g progress.workers
 
 -- nodes are begun, and none is ready any more
 pub record IsStarting {N E : Type 0} (g : Graph N E) (d est : List ℕ) (latest : ℕ → ℕ) (count : ℕ) (work : Work)
@@ -61,10 +64,16 @@ working_from g d est latest count work bound is under none =
       keen = keen_from g d count work (replicate bound 0) (replicate bound 0);
       starts_long = length-replicate bound 0 ∙ is;
       workers_long = length-replicate bound 0 ∙ is;
+      starts_elsewhere = zeros_elsewhere g (replicate bound 0) bound refl;
+      workers_elsewhere = zeros_elsewhere g (replicate bound 0) bound refl;
     }
 
 module _ {N E : Type 0} {g : Graph N E} {d est : List ℕ} {latest : ℕ → ℕ} {count : ℕ} {work : Work} {progress : Progress}
     (s : IsWorking g d est latest count work progress) where
+  pub waiting_exists : (n : ℕ) → Contains (nodes_of progress.waiting) n → HasNode g n
+  waiting_exists n c =
+      (s.under.out n ((s.shift.outs n).1 (inl (contains_mem (nodes_of progress.waiting) n c))).0).0
+
   out_low : (n : ℕ) → IsOut work n → n < node_bound g
   out_low n o = below_bound g.nodes n (s.under.out n o.0).0
 
@@ -111,6 +120,8 @@ module _ {N E : Type 0} {g : Graph N E} {d est : List ℕ} {latest : ℕ → ℕ
         keen = keen_wait s.keen new dones;
         starts_long = s.starts_long;
         workers_long = s.workers_long;
+        starts_elsewhere = s.starts_elsewhere;
+        workers_elsewhere = s.workers_elsewhere;
       })
 
   -- a worker begins a node
@@ -127,6 +138,7 @@ module _ {N E : Type 0} {g : Graph N E} {d est : List ℕ} {latest : ℕ → ℕ
     working_begin none_ready after b =
         let waits = taken_contains progress.waiting after.waiting b.key b.node b.taken in
         let low = waiting_low b.node waits in
+        let exists = waiting_exists b.node waits in
         let mid : Progress = record {
           waiting = after.waiting;
           running = after.running;
@@ -160,16 +172,18 @@ module _ {N E : Type 0} {g : Graph N E} {d est : List ℕ} {latest : ℕ → ℕ
               b.finish_is b.added (omega (arith, low, s.starts_long)) (omega (arith, low, s.workers_long)) s.keen;
           starts_long = length-set progress.starts b.node progress.now ∙ s.starts_long;
           workers_long = length-set progress.workers b.node b.worker ∙ s.workers_long;
+          starts_elsewhere = set_elsewhere g progress.starts _ b.node progress.now exists s.starts_elsewhere refl;
+          workers_elsewhere = set_elsewhere g progress.workers _ b.node b.worker exists s.workers_elsewhere refl;
         })
 
-    pub working_too_late : IsTooLate d progress → TakeTooLong g d
-    working_too_late t =
-        begins_too_long s.loaded t.0 (progress.now + get_or d t.0 0)
-        (s.under.out t.0 ((s.shift.outs t.0).1 (inl (contains_mem (nodes_of progress.waiting) t.0 t.1))).0).0 refl t.2
+    pub working_too_late : 0 < count → (path : List ℕ) (longest : ℕ) → IsCritical g d path longest
+        → AreDoneBy g d (λ n. get_or est n 0) longest → IsTooLate d progress → HasLongBound g d count
+    working_too_late some path longest critical met t =
+        begins_too_long s.loaded t.0 (waiting_exists t.0 t.1) t.2 (contains_mem (nodes_of progress.waiting) t.0 t.1)
         (unbegun t.0 t.1) (λ m b. elim b [
           | inl b ↦ (s.under.out m (s.under.done m b)).0
           | inr r ↦ (s.under.out m ((s.shift.outs m).1 (inr r)).0).0
-        ])
+        ]) path longest critical met some
 
   -- the next node is finished
   pub working_finish : {end : ℕ} → IsWellFormed end g → AreFeasible g d (λ n. get_or est n 0) → work.ready ≡ []
@@ -228,6 +242,8 @@ module _ {N E : Type 0} {g : Graph N E} {d est : List ℕ} {latest : ℕ → ℕ
             keen_finish s.shift w s.under none_ready new after.running time n f.taken f.first dones as_busy s.keen;
         starts_long = s.starts_long;
         workers_long = s.workers_long;
+        starts_elsewhere = s.starts_elsewhere;
+        workers_elsewhere = s.workers_elsewhere;
       })
 
   -- all nodes are done

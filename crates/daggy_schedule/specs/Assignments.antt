@@ -2,7 +2,7 @@
 use Rattle.std.specs.Prelude.{◌≡◌, ◌≢◌, ℕ, ◌+◌, ◌-◌, ◌*◌, ◌^◌, ◌<◌, ◌≤◌, ◌⊎◌, List, slice_index}
 use Rattle.daggy_base.specs.Graph.{Graph, HasNode}
 use Rattle.std.specs.Ordering.{nat_cmp}
-use Rattle.daggy_base.specs.Path.{AreJoined}
+use Rattle.daggy_base.specs.Path.{AreJoined, IsPath}
 use Rattle.daggy_base.specs.Ordered.{IsOrderOf}
 use Rattle.daggy_schedule.specs.Times.{span, AreFeasible, AreDoneBy, AreLatest, IsCritical}
 use Rattle.daggy_schedule.specs.LeastFirst.{Precedes}
@@ -54,6 +54,10 @@ IsNearBest g durations count makespan =
     (starts workers : List ℕ) (time : ℕ) → IsAssignment g durations starts workers count time
     → count * makespan ≤ (2 * count - 1) * time
 
--- the durations of all nodes sum up to 2 ^ 64 or more
-abbrev pub TakeTooLong : {N E : Type 0} → Graph N E → (durations : List ℕ) → Type 0
-TakeTooLong g durations = (order : List ℕ) → IsOrderOf g order → 2 ^ 64 ≤ span durations order
+-- Graham's bound is 2 ^ 64 or more: as many times 2 ^ 64 as there are workers is at most all durations together, and one
+-- time less the durations along some path.
+pub record HasLongBound {N E : Type 0} (g : Graph N E) (durations : List ℕ) (count : ℕ) : Type 0 where
+  pub path : List ℕ
+  pub joined : IsPath g path
+  pub long : (order : List ℕ) → IsOrderOf g order
+      → count * 2 ^ 64 ≤ span durations order + (count - 1) * span durations path

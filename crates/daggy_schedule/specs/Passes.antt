@@ -1,27 +1,35 @@
 -- What the passes over the nodes hand on, first in the order and then against it.
-use Rattle.std.specs.Prelude.{◌≡◌, ℕ, ◌+◌, ◌≤◌, ◌⊎◌, List, slice_index}
+use Rattle.std.specs.Prelude.{◌≡◌, ℕ, ◌+◌, ◌<◌, ◌≤◌, ◌⊎◌, List, slice_index}
 use Rattle.daggy_base.specs.Graph.{Graph, HasNode}
 use Rattle.daggy_base.specs.Path.{AreJoined}
+use Rattle.daggy_schedule.specs.Times.{IsLowestLast}
 
--- the children of n start no earlier than it finishes, and each that was put off for that notes n
+-- whether n, which finishes at that time, goes before m: it finishes later, or at the same time and has the lower index
+abbrev pub GoesBefore : (finish n time m : ℕ) → Type 0
+GoesBefore finish n time m = (time < finish) ⊎ ((time ≡ finish) × (n < m))
+
+-- The children of n start no earlier than it finishes. Those that noted a node before which n goes start when n finishes,
+-- and note n.
 pub record AreDelayed {N E : Type 0} (g : Graph N E) (n finish : ℕ) (starts parents starts' parents' : List ℕ) : Type 0 where
-  pub late : (v : ℕ) → AreJoined g n v → finish ≤ slice_index starts' v
+  pub late : (v : ℕ) → AreJoined g n v → ¬ GoesBefore finish n (slice_index starts' v) (slice_index parents' v)
   pub up : (v : ℕ) → slice_index starts v ≤ slice_index starts' v
   pub noted : (v : ℕ)
       → ((slice_index starts' v ≡ slice_index starts v) × (slice_index parents' v ≡ slice_index parents v))
-      ⊎ (AreJoined g n v × (slice_index starts' v ≡ finish) × (slice_index parents' v ≡ n))
+      ⊎ (AreJoined g n v × GoesBefore finish n (slice_index starts v) (slice_index parents v)
+      × (slice_index starts' v ≡ finish) × (slice_index parents' v ≡ n))
 
--- Each node takes its duration. It starts at 0 and notes `end`, or it notes a parent and starts when that finishes.
+-- Each node takes its duration. It has no parents, starts at 0 and notes `end`, or it notes the lowest of the parents that
+-- finish last and starts when that finishes.
 pub record AreNoted {N E : Type 0} (end : ℕ) (g : Graph N E) (durations starts parents finishes : List ℕ) : Type 0 where
   pub takes : (n : ℕ) → HasNode g n → slice_index starts n + slice_index durations n ≡ slice_index finishes n
-  pub noted : (n : ℕ) → HasNode g n → ((slice_index parents n ≡ end) × (slice_index starts n ≡ 0))
-      ⊎ (AreJoined g (slice_index parents n) n
+  pub noted : (n : ℕ) → HasNode g n → ((slice_index parents n ≡ end) × (slice_index starts n ≡ 0) × ((u : ℕ) → ¬ AreJoined g u n))
+      ⊎ (IsLowestLast (λ u. AreJoined g u n) (slice_index finishes) (slice_index parents n)
       × (slice_index finishes (slice_index parents n) ≡ slice_index starts n))
 
--- the makespan is when the last node finishes; there is one unless there are no nodes
+-- the makespan is when the last node finishes, the lowest of several; there is one unless there are no nodes
 pub record IsLast {N E : Type 0} (end : ℕ) (g : Graph N E) (finishes : List ℕ) (makespan last : ℕ) : Type 0 where
   pub most : (n : ℕ) → HasNode g n → slice_index finishes n ≤ makespan
-  pub is_last : (HasNode g last × (slice_index finishes last ≡ makespan))
+  pub is_last : (IsLowestLast (HasNode g) (slice_index finishes) last × (slice_index finishes last ≡ makespan))
       ⊎ (((n : ℕ) → ¬ HasNode g n) × (makespan ≡ 0) × (last ≡ end))
 
 -- how much later each node starts at the latest

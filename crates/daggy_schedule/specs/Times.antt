@@ -21,6 +21,10 @@ module _ {N E F I : Type 0} (of : ℕ → I) where
   AreDurations post f g durations =
       (n : ℕ) (w : N) → node_weight g n ≡ Some w → IsDuration of post f n w (slice_index durations n)
 
+-- 0 at each index where there is no node
+abbrev pub IsZeroElsewhere : {N E : Type 0} → Graph N E → List ℕ → Type 0
+IsZeroElsewhere g times = (n : ℕ) → ¬ HasNode g n → slice_index times n ≡ 0
+
 -- the sum of the durations of the nodes of a list
 abbrev pub span : (durations : List ℕ) → List ℕ → ℕ
 span durations [] = 0
@@ -55,6 +59,25 @@ pub record IsMakespan {N E : Type 0} (g : Graph N E) (durations : List ℕ) (sta
   pub met : AreDoneBy g durations start time
   pub least : (other : ℕ → ℕ) (earlier : ℕ) → AreFeasible g durations other → AreDoneBy g durations other earlier
       → time ≤ earlier
+
+-- of the nodes of which this holds, the lowest of those that finish last
+pub record IsLowestLast (holds : ℕ → Type 0) (finish : ℕ → ℕ) (n : ℕ) : Type 0 where
+  pub here : holds n
+  pub last : (m : ℕ) → holds m → finish m ≤ finish n
+  pub lowest : (m : ℕ) → holds m → finish m ≡ finish n → n ≤ m
+
+-- the last node of a list is the lowest of all that finish last, and each other one of the parents of the next
+abbrev pub AreWaitedFor : {N E : Type 0} → Graph N E → (finish : ℕ → ℕ) → List ℕ → Type 0
+AreWaitedFor g finish [] = Unit {0}
+AreWaitedFor g finish (n ∷ []) = IsLowestLast (HasNode g) finish n
+AreWaitedFor g finish (u ∷ v ∷ rest) =
+    IsLowestLast (λ m. AreJoined g m v) finish u × AreWaitedFor g finish (v ∷ rest)
+
+-- The nodes from the lowest of those that finish last back, each time to the lowest of the parents that finish last, to a
+-- node without parents.
+pub record IsTracedBack {N E : Type 0} (g : Graph N E) (finish : ℕ → ℕ) (nodes : List ℕ) : Type 0 where
+  pub waited_for : AreWaitedFor g finish nodes
+  pub first : (n : ℕ) (rest : List ℕ) → nodes ≡ n ∷ rest → (u : ℕ) → ¬ AreJoined g u n
 
 -- a path, or nothing if there are no nodes, whose durations sum up to the time
 pub record IsCritical {N E : Type 0} (g : Graph N E) (durations nodes : List ℕ) (time : ℕ) : Type 0 where

@@ -3,16 +3,16 @@ ghost use Rattle.std.specs.Prelude.{◌≡◌, ◌<◌, ℕ, List, map, Err, IfO
 ghost use Rattle.std.specs.Int.NonZero.{non_zero_usize_get};
 ghost use Rattle.daggy_base.specs.Graph.{node_bound};
 ghost use Rattle.daggy_schedule.specs.Times.{CanCallAtEachNode, AreDurations, AreEarliest, AreLatest};
-ghost use Rattle.daggy_schedule.specs.Times.{AreDoneBy, IsCritical};
+ghost use Rattle.daggy_schedule.specs.Times.{AreDoneBy, IsCritical, IsZeroElsewhere};
 ghost use Rattle.daggy_schedule.specs.Passes.{later_by};
 ghost use Rattle.daggy_schedule.specs.Assignments.{IsAssignment, AreKeptBusy, IsMostUrgentFirst};
-ghost use Rattle.daggy_schedule.specs.Assignments.{IsWithinBound, IsNearBest, TakeTooLong};
+ghost use Rattle.daggy_schedule.specs.Assignments.{IsWithinBound, IsNearBest, HasLongBound};
 ghost use Rattle.daggy_schedule.specs.declared.schedule.ScheduleError.TheVariants.{Overflow};
 
 use crate::ready::Ready;
 use crate::schedule::{Schedule, ScheduleError};
 use daggy_base::index::{IndexType, NodeIndex};
-use daggy_base::store::Store;
+use daggy_base::read_store::ReadStore;
 use daggy_dag::acyclic::Acyclic;
 use std::alloc::Global;
 use std::num::NonZeroUsize;
@@ -21,34 +21,42 @@ mod workers;
 
 use workers::Workers;
 
-/// Which worker does each node, and when. The lists are by node index, with 0 where there is no
-/// node.
-#[derive(Debug, Drop)]
+/// Which worker does each node, and when. The lists are indexed by node, with 0 at indices without
+/// a node.
+#[derive(Debug, Drop, Eq, PartialEq)]
 pub struct Assignment {
-    /// How long each node takes.
+    /// The duration of each node.
     pub durations: Vec<u64>,
     /// When each node starts: all of its parents have finished, and its worker is free.
     pub starts: Vec<u64>,
     /// The worker that does each node. The first has number 0.
     pub workers: Vec<usize>,
-    /// When all nodes have finished.
+    /// The length of the schedule: the greatest finish, or 0 if there are no nodes.
     pub makespan: u64,
 }
 
-/// Assigns the nodes of a dag to workers, each of which does one node at a time. A worker that is free
-/// takes, of the nodes whose parents have all finished, the one from which the longest path leads, of
-/// equal ones the one with the smallest index. `durations` is called once with each node.
+/// Assigns the nodes of a dag to workers, each of which does one node at a time. This is list
+/// scheduling (Graham 1969), longest remaining path first: a free worker takes the ready node from
+/// which the longest path leads, and ties go to the smallest index. Which worker takes it, if
+/// several are free, is unspecified. `durations` is called once with each node; the unit is up to
+/// the caller.
 ///
-/// The makespan is less than twice the least that is possible on as many workers, unless it is 0.
+/// The makespan is at most 2 - 1/workers times the least that is possible on as many workers
+/// (Graham's bound).
+///
+/// # Requires
+///
+/// - `durations` may be called with each node and its weight.
 ///
 /// # Errors
 ///
-/// Returns `ScheduleError::Overflow` only if the durations of all nodes sum up to 2^64 or more, and
-/// `ScheduleError::Memory` if an allocation fails.
+/// Returns `ScheduleError::Overflow` only if the bound on the makespan is 2^64 or more: the sum of
+/// all durations, plus those along a longest path times one less than the number of workers, divided
+/// by that number. Returns `ScheduleError::Memory` if an allocation fails.
 ///
 /// # Complexity
 ///
-/// O(nodes x log(nodes) + edges), plus the calls.
+/// O(nodes * log(nodes) + edges), plus the calls.
 ///
 /// # Examples
 ///
@@ -70,13 +78,17 @@ pub fn schedule_on<N: Drop, E: Drop, Ix: IndexType, S, F: Fn(NodeIndex<Ix>, &N) 
     workers: NonZeroUsize,
 ) -> Result<Assignment, ScheduleError>
 where
-    S: Store<Ix, NodeWeight = N, EdgeWeight = E>,
+    S: ReadStore<Ix, NodeWeight = N, EdgeWeight = E>,
     requires { CanCallAtEachNode Ix.of F.pre durations dag.now.graph }
     ensures sized { IfOk result (λ a. (vec_len a.durations ≡ node_bound dag.now.graph)
         × (vec_len a.starts ≡ node_bound dag.now.graph)
         × (vec_len a.workers ≡ node_bound dag.now.graph)) }
     ensures durations { IfOk result (λ a.
         AreDurations Ix.of F.post durations dag.now.graph a.durations.items) }
+    ensures durations_elsewhere { IfOk result (λ a.
+        IsZeroElsewhere dag.now.graph a.durations.items) }
+    ensures starts_elsewhere { IfOk result (λ a. IsZeroElsewhere dag.now.graph a.starts.items) }
+    ensures workers_elsewhere { IfOk result (λ a. IsZeroElsewhere dag.now.graph a.workers.items) }
     ensures assigned { IfOk result (λ a. IsAssignment dag.now.graph a.durations.items a.starts.items
         a.workers.items (non_zero_usize_get workers) a.makespan) }
     ensures busy { IfOk result (λ a. AreKeptBusy dag.now.graph a.durations.items a.starts.items
@@ -89,10 +101,11 @@ where
         (non_zero_usize_get workers) a.makespan) }
     ensures overflow { result ≡ Err Overflow → (durations' : List ℕ)
         × AreDurations Ix.of F.post durations dag.now.graph durations'
-        × TakeTooLong dag.now.graph durations' }
+        × HasLongBound dag.now.graph durations' (non_zero_usize_get workers) }
 {
+    let count = workers.get();
     let plan = Schedule::new(alloc, dag, durations)?;
-    let done = work_off(alloc, dag, &plan, workers.get())?;
+    let done = work_off(alloc, dag, &plan, count)?;
     Ok(done.into_assignment(plan.durations))
 }
 
@@ -105,7 +118,7 @@ fn work_off<N: Drop, E: Drop, Ix: IndexType, S>(
     count: usize,
 ) -> Result<Workers<Ix>, ScheduleError>
 where
-    S: Store<Ix, NodeWeight = N, EdgeWeight = E>,
+    S: ReadStore<Ix, NodeWeight = N, EdgeWeight = E>,
     requires some { 0 < count }
     requires durations { vec_len plan.now.durations ≡ node_bound dag.now.graph }
     requires starts { vec_len plan.now.starts ≡ node_bound dag.now.graph }
@@ -120,6 +133,8 @@ where
         (map Ix.number plan.now.critical.items) plan.now.makespan }
     ensures sized { IfOk result (λ s. (length s.starts ≡ node_bound dag.now.graph)
         × (length s.workers ≡ node_bound dag.now.graph)) }
+    ensures elsewhere { IfOk result (λ s. IsZeroElsewhere dag.now.graph s.starts
+        × IsZeroElsewhere dag.now.graph s.workers) }
     ensures assigned { IfOk result (λ s. IsAssignment dag.now.graph plan.now.durations.items s.starts
         s.workers count s.now) }
     ensures busy { IfOk result (λ s. AreKeptBusy dag.now.graph plan.now.durations.items s.starts
@@ -131,8 +146,10 @@ where
     ensures near_best { IfOk result (λ s.
         IsNearBest dag.now.graph plan.now.durations.items count s.now) }
     ensures overflow { result ≡ Err Overflow
-        → TakeTooLong dag.now.graph plan.now.durations.items }
+        → HasLongBound dag.now.graph plan.now.durations.items count }
 {
+    // Called only for its postcondition: the graph has an order.
+    let _order = dag.topological_order();
     let mut ready = Ready::new(alloc, dag)?;
     let mut workers = Workers::new(alloc, dag.graph().node_bound())?;
     'events: loop {

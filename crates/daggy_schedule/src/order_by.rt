@@ -7,15 +7,20 @@ ghost use Rattle.daggy_schedule.specs.LeastFirst.{IsLeastFirst};
 use crate::candidates::Candidates;
 use crate::ready::Ready;
 use daggy_base::index::{IndexType, NodeIndex};
-use daggy_base::store::Store;
+use daggy_base::read_store::ReadStore;
 use daggy_dag::acyclic::Acyclic;
 use std::alloc::{AllocError, Global};
 
 /// The nodes of a dag, each after its parents: of the nodes whose parents have all come, the one
-/// with the least key comes next, of equal keys the one with the smallest index.
+/// with the least key comes next. Ties go to the smallest index.
 ///
-/// So the order depends only on the nodes, the joined pairs and the keys, and not on how the dag was
-/// built. `key` is called once with each node.
+/// So the order depends only on the nodes, the adjacent pairs and the keys, and not on how the dag
+/// was built. `key` is called once with each node. This is Kahn's algorithm (1962), with a heap of
+/// the nodes that are ready.
+///
+/// # Requires
+///
+/// - `key` may be called with each node and its weight.
 ///
 /// # Errors
 ///
@@ -23,7 +28,7 @@ use std::alloc::{AllocError, Global};
 ///
 /// # Complexity
 ///
-/// O(nodes x log(nodes) + edges), plus the calls.
+/// O(nodes * log(nodes) + edges), plus the calls.
 ///
 /// # Examples
 ///
@@ -44,7 +49,7 @@ pub fn topological_order_by<
     F: Fn(NodeIndex<Ix>, &N) -> K,
 >(alloc: Global, dag: &Acyclic<N, E, Ix, S>, key: F) -> Result<Vec<NodeIndex<Ix>>, AllocError>
 where
-    S: Store<Ix, NodeWeight = N, EdgeWeight = E>,
+    S: ReadStore<Ix, NodeWeight = N, EdgeWeight = E>,
     requires { CanCallAtEachNode Ix.of F.pre key dag.now.graph }
     ensures ordered { IfOk result (λ order. IsOrderOf dag.now.graph (map Ix.number order.items)) }
     ensures least { IfOk result (λ order. IsLeastFirst Ix.of F.post key K.cmp dag.now.graph

@@ -1,28 +1,32 @@
 //! Which nodes of a dag can begin, while others are being done.
-ghost use Rattle.std.specs.Prelude.{◌≡◌, ℕ, ◌+◌, ◌<◌, ◌≤◌, ◌↔◌, ◌⊎◌, ◌∷◌, ◌++◌, [], List};
+ghost use Rattle.std.specs.Prelude.{◌≡◌, ℕ, ◌+◌, ◌<◌, ◌≤◌, ◌↔◌, ◌⊎◌, ◌∷◌, ◌++◌, []};
 ghost use Rattle.std.specs.Prelude.{IsTrue, IsNone, IfSome, IfOk, take, length, filter, slice_index_or};
 ghost use Rattle.daggy_base.specs.Graph.{HasNode, in_list, out_list, node_bound};
-ghost use Rattle.daggy_base.specs.Ordered.{IsOrderOf};
+ghost use Rattle.daggy_base.specs.Iterating.{node_identifiers};
 ghost use Rattle.daggy_schedule.specs.Work.{IsSet, IsOut, IsIdle, IsUnderWay};
 ghost use Rattle.daggy_schedule.specs.Work.{has_no_parents, released, each_last, children_of};
 ghost use Rattle.daggy_schedule.specs.Queue.{IsCounted, waits_for_none};
 
 use daggy_base::index::{DefaultIx, Direction, EdgeIndex, IndexType, NodeIndex};
 use daggy_base::link::Link;
-use daggy_base::store::Store;
+use daggy_base::read_store::ReadStore;
 use daggy_dag::acyclic::Acyclic;
 use daggy_visit::prefetch::{PREFETCH_FROM, touch_list};
 use std::alloc::{AllocError, Global};
 use std::marker::Model;
 
-/// The nodes of a dag as they are worked off: each is handed out once, after all of its parents are
-/// done.
+/// A queue of the nodes of a dag that are ready: all of their parents are done. Each node is
+/// returned once. As in Kahn's algorithm (1962), it counts for each node the edges from parents
+/// that are not done.
 ///
-/// It does not borrow the dag; each call that needs the dag borrows it for that call. Until all nodes
-/// are done, no node and no edge may be added or removed.
+/// It does not borrow the dag; each call that needs the dag borrows it for that call. Until all
+/// nodes are done, no node and no edge may be added or removed. Weights may be written: what the
+/// next call requires still holds then, by the lemmas in `proofs/Reweighed.antt`.
 ///
-/// The calls say that the work on this dag is under way, and ask for that. A struct that keeps both
-/// states it once, as `ghost under_way: { IsUnderWay dag.now.graph ready }`.
+/// For proofs: [`next`](Ready::next) and [`done`](Ready::done) require that no node or edge was
+/// added or removed since [`new`](Ready::new), and guarantee it to the next call. A struct that has
+/// both the dag and this queue states it once, as a field
+/// `ghost under_way: { IsUnderWay dag.now.graph ready }`.
 ///
 /// # Complexity
 ///
@@ -77,8 +81,7 @@ impl<Ix: IndexType> Model for Ready<Ix> {
 }
 
 impl<Ix: IndexType> Ready<Ix> {
-    /// Starts the work on a dag: the nodes without parents are ready, in the dag's topological
-    /// order.
+    /// Starts the work on a dag: the nodes without parents are ready, in ascending index order.
     ///
     /// # Errors
     ///
@@ -92,9 +95,9 @@ impl<Ix: IndexType> Ready<Ix> {
         dag: &Acyclic<N, E, Ix, S>,
     ) -> Result<Self, AllocError>
     where
-        S: Store<Ix, NodeWeight = N, EdgeWeight = E>,
-        ensures ready { IfOk result (λ r. (order : List ℕ) × IsOrderOf dag.now.graph order
-            × (r.ready ≡ filter (has_no_parents dag.now.graph) order)) }
+        S: ReadStore<Ix, NodeWeight = N, EdgeWeight = E>,
+        ensures ready { IfOk result (λ r.
+            r.ready ≡ filter (has_no_parents dag.now.graph) (node_identifiers dag.now.graph)) }
         ensures none_out { IfOk result (λ r. (n : ℕ) → ¬ IsSet r.out n) }
         ensures under_way { IfOk result (λ r. IsUnderWay dag.now.graph r) }
     {
@@ -108,11 +111,15 @@ impl<Ix: IndexType> Ready<Ix> {
         let mut done = Vec::new(alloc);
         done.resize(bound, false)?;
         let mut tail = 0;
-        let mut nodes = dag.topological_order();
-        'nodes: while let Some(n) = nodes.next() {
-            if waiting[n.index()] == 0 {
-                queue[tail] = Link::of_node(n);
-                tail += 1;
+        // Called only for its postcondition: the graph has an order.
+        let _order = dag.topological_order();
+        'nodes: for i in 0..bound {
+            let n = NodeIndex::new(i);
+            if let Some(_weight) = store.node_weight(n) {
+                if waiting[i] == 0 {
+                    queue[tail] = Link::of_node(n);
+                    tail += 1;
+                }
             }
         }
         Ok(Ready {
@@ -126,18 +133,23 @@ impl<Ix: IndexType> Ready<Ix> {
         })
     }
 
-    /// Hands out the node that has been ready for longest, or returns `None` if none is ready: then
-    /// some node that is out has to be done first, or all are done.
+    /// Returns the node that has been ready for longest, or `None` if none is ready: then a node
+    /// that was returned has to be done first, or all nodes are done.
     ///
-    /// The contract says by `dag` of which dag the nodes are. It is read only to prefetch edges of the
-    /// next nodes.
+    /// `dag` must be the dag that was passed to [`new`](Ready::new). It is read only to prefetch
+    /// edges of the next nodes.
+    ///
+    /// # Requires
+    ///
+    /// - The work was started on this `dag`, and no node or edge has been added or removed since.
+    ///   Weights may have been written.
     ///
     /// # Complexity
     ///
     /// O(1).
     pub fn next<N: Drop, E: Drop, S>(&mut self, dag: &Acyclic<N, E, Ix, S>) -> Option<NodeIndex<Ix>>
     where
-        S: Store<Ix, NodeWeight = N, EdgeWeight = E>,
+        S: ReadStore<Ix, NodeWeight = N, EdgeWeight = E>,
         requires { IsUnderWay dag.now.graph self.old }
         ensures none { IsNone result ↔ (self.old.ready ≡ []) }
         ensures first { IfSome result (λ n. self.old.ready ≡ Ix.number n ∷ self.new.ready) }
@@ -165,7 +177,7 @@ impl<Ix: IndexType> Ready<Ix> {
         Some(n)
     }
 
-    /// Whether a node was handed out and is not done yet.
+    /// Whether [`next`](Ready::next) returned the node and it is not done yet.
     pub fn is_out(&self, n: NodeIndex<Ix>) -> bool
         ensures { IsTrue result ↔ IsOut self.now (Ix.number n) }
     {
@@ -173,15 +185,23 @@ impl<Ix: IndexType> Ready<Ix> {
         i < self.out.len() && self.out[i] && !(i < self.done.len() && self.done[i])
     }
 
-    /// Notes that a node that was handed out is done. Its children whose parents are all done then
-    /// are ready, after those already ready, in the order of the edges that leave the node.
+    /// Marks `n` as done. Children whose parents are now all done become ready, after the nodes
+    /// that are ready already and in the order of the edges that leave `n`. A child to which
+    /// several of these edges lead comes at the last of them.
+    ///
+    /// # Requires
+    ///
+    /// - `under_way`: The work was started on this `dag`, and no node or edge has been added or
+    ///   removed since. Weights may have been written.
+    /// - `out`: `next` returned `n`, and `n` has not been passed to `done` since. Test:
+    ///   `is_out(n)`.
     ///
     /// # Complexity
     ///
     /// O(children of the node).
     pub fn done<N: Drop, E: Drop, S>(&mut self, dag: &Acyclic<N, E, Ix, S>, n: NodeIndex<Ix>)
     where
-        S: Store<Ix, NodeWeight = N, EdgeWeight = E>,
+        S: ReadStore<Ix, NodeWeight = N, EdgeWeight = E>,
         requires under_way { IsUnderWay dag.now.graph self.old }
         requires out { IsOut self.old (Ix.number n) }
         ensures done { (m : ℕ)
@@ -206,7 +226,7 @@ impl<Ix: IndexType> Ready<Ix> {
         );
     }
 
-    /// Whether no node is ready and none is out. That is so exactly if all nodes are done.
+    /// Whether all nodes are done: none is ready, and none that was returned is left to be done.
     pub fn is_finished(&self) -> bool
         ensures { IsTrue result ↔ IsIdle self.now }
     {
@@ -218,7 +238,7 @@ impl<Ix: IndexType> Ready<Ix> {
 const AHEAD: usize = 4;
 
 // By node index, how many edges lead to each node.
-fn count_parents<Ix: IndexType, S: Store<Ix>>(
+fn count_parents<Ix: IndexType, S: ReadStore<Ix>>(
     alloc: Global,
     store: &S,
 ) -> Result<Vec<usize>, AllocError>
@@ -246,7 +266,7 @@ fn count_parents<Ix: IndexType, S: Store<Ix>>(
 // it.
 #[cold]
 #[inline(never)]
-fn touch_lists<Ix: IndexType, S: Store<Ix>>(store: &S, queue: &[Link<Ix>]) -> bool
+fn touch_lists<Ix: IndexType, S: ReadStore<Ix>>(store: &S, queue: &[Link<Ix>]) -> bool
     ensures { IsTrue result }
 {
     for k in 0..AHEAD.min(queue.len()) {
@@ -259,7 +279,7 @@ fn touch_lists<Ix: IndexType, S: Store<Ix>>(store: &S, queue: &[Link<Ix>]) -> bo
 
 // Counts off the edges that leave a node that is done, and queues the children that wait for none
 // then.
-fn release<Ix: IndexType, S: Store<Ix>>(
+fn release<Ix: IndexType, S: ReadStore<Ix>>(
     store: &S,
     n: NodeIndex<Ix>,
     done: &Vec<bool>,

@@ -1,9 +1,9 @@
 //! Which nodes of a dag can begin, by keys: the one with the greatest key first.
-ghost use Rattle.std.specs.Prelude.{◌≡◌, ℕ, ◌+◌, ◌<◌, ◌≤◌, ◌↔◌, ◌⊎◌, ◌++◌, [], List, None};
+ghost use Rattle.std.specs.Prelude.{◌≡◌, ℕ, ◌+◌, ◌<◌, ◌≤◌, ◌↔◌, ◌⊎◌, ◌++◌, [], None};
 ghost use Rattle.std.specs.Prelude.{IsTrue, IsNone, IfSome, IfOk, All, Contains, IsPermutation};
 ghost use Rattle.std.specs.Prelude.{length, filter, slice_set, vec_len};
 ghost use Rattle.daggy_base.specs.Graph.{HasNode, slot, node_bound};
-ghost use Rattle.daggy_base.specs.Ordered.{IsOrderOf};
+ghost use Rattle.daggy_base.specs.Iterating.{node_identifiers};
 ghost use Rattle.daggy_schedule.specs.Work.{IsSet, IsOut, IsIdle, IsUnderWay};
 ghost use Rattle.daggy_schedule.specs.Work.{has_no_parents, released};
 ghost use Rattle.daggy_schedule.specs.Times.{CanCallAtEachNode};
@@ -14,29 +14,31 @@ ghost use Rattle.daggy_schedule.specs.KeyQueue.{turned_back, keys_from};
 use crate::candidates::Candidates;
 use crate::ready::Ready;
 use daggy_base::index::{DefaultIx, IndexType, NodeIndex};
-use daggy_base::store::Store;
+use daggy_base::read_store::ReadStore;
 use daggy_dag::acyclic::Acyclic;
 use std::alloc::{AllocError, Global};
 use std::cmp::Reverse;
 use std::marker::Model;
 
-/// The nodes of a dag as they are worked off by keys: each is handed out once, after all of its
-/// parents are done, and of the nodes that are ready the one with the greatest key first.
+/// A priority queue of the nodes of a dag that are ready: all of their parents are done. Each node
+/// is returned once, the one with the greatest key first.
 ///
-/// Of nodes with equal keys the one with the smallest index comes first. For the least key first,
-/// wrap the keys in [`Reverse`]. [`Ready`] has no keys: it hands out the nodes in the order in which
-/// they became ready.
+/// Ties go to the smallest index. For the least key first, wrap the keys in `Reverse`. [`Ready`]
+/// has no keys: it returns the nodes in the order in which they became ready.
 ///
-/// It does not borrow the dag; each call that needs the dag borrows it for that call. Until all nodes
-/// are done, no node and no edge may be added or removed.
+/// It does not borrow the dag; each call that needs the dag borrows it for that call. Until all
+/// nodes are done, no node and no edge may be added or removed. Weights may be written: what the
+/// next call requires still holds then, by the lemmas in `proofs/Reweighed.antt`.
 ///
-/// The calls say that the work on this dag is under way, and ask for that. A struct that keeps both
-/// states it once, as `ghost under_way: { IsUnderWayByKey dag.now.graph ready }`.
+/// For proofs: [`next`](ReadyByKey::next) and [`done`](ReadyByKey::done) require that no node or
+/// edge was added or removed since [`new`](ReadyByKey::new), and guarantee it to the next call. A
+/// struct that has both the dag and this queue states it once, as a field
+/// `ghost under_way: { IsUnderWayByKey dag.now.graph ready }`.
 ///
 /// # Complexity
 ///
-/// O(nodes x log(nodes) + edges) for a whole run. [`new`](ReadyByKey::new) allocates all the memory;
-/// no other call does.
+/// O(nodes * log(nodes) + edges) for a whole run. [`new`](ReadyByKey::new) allocates all the
+/// memory; no other call does.
 ///
 /// # Examples
 ///
@@ -84,8 +86,12 @@ impl<K: Ord, Ix: IndexType> Model for ReadyByKey<K, Ix> {
 }
 
 impl<K: Ord + Drop, Ix: IndexType> ReadyByKey<K, Ix> {
-    /// Starts the work on a dag: the nodes without parents are ready. `key` is called once with each
-    /// node.
+    /// A queue of the nodes of a dag. At first the nodes without parents are ready. `key` is called
+    /// once with each node.
+    ///
+    /// # Requires
+    ///
+    /// - `key` may be called with each node and its weight.
     ///
     /// # Errors
     ///
@@ -93,17 +99,18 @@ impl<K: Ord + Drop, Ix: IndexType> ReadyByKey<K, Ix> {
     ///
     /// # Complexity
     ///
-    /// O(nodes x log(nodes) + edges), plus the calls.
+    /// O(nodes * log(nodes) + edges), plus the calls.
     pub fn new<N: Drop, E: Drop, S, F: Fn(NodeIndex<Ix>, &N) -> K>(
         alloc: Global,
         dag: &Acyclic<N, E, Ix, S>,
         key: F,
     ) -> Result<Self, AllocError>
     where
-        S: Store<Ix, NodeWeight = N, EdgeWeight = E>,
+        S: ReadStore<Ix, NodeWeight = N, EdgeWeight = E>,
         requires { CanCallAtEachNode Ix.of F.pre key dag.now.graph }
-        ensures ready { IfOk result (λ r. (order : List ℕ) × IsOrderOf dag.now.graph order
-            × IsPermutation (filter (has_no_parents dag.now.graph) order) (nodes_of r.ready)) }
+        ensures ready { IfOk result (λ r. IsPermutation
+            (filter (has_no_parents dag.now.graph) (node_identifiers dag.now.graph))
+            (nodes_of r.ready)) }
         ensures keys { IfOk result (λ r. All (IsKeyOf Ix.of F.post key dag.now.graph) (keys_of r)) }
         ensures none_out { IfOk result (λ r. (n : ℕ) → ¬ IsSet r.out n) }
         ensures under_way { IfOk result (λ r. IsUnderWayByKey dag.now.graph r) }
@@ -123,18 +130,23 @@ impl<K: Ord + Drop, Ix: IndexType> ReadyByKey<K, Ix> {
         })
     }
 
-    /// Hands out the node with the greatest key of those that are ready, of equal keys the one with
-    /// the smallest index, or returns `None` if none is ready: then some node that is out has to be
-    /// done first, or all are done.
+    /// Returns the ready node with the greatest key, or `None` if none is ready: then a node that
+    /// was returned has to be done first, or all nodes are done. Ties go to the smallest index.
     ///
-    /// `dag` is not read. It names the dag of which the nodes are worked off, for the contract.
+    /// `dag` must be the dag that was passed to [`new`](ReadyByKey::new). It is not read: the
+    /// contract needs it.
+    ///
+    /// # Requires
+    ///
+    /// - The work was started on this `dag`, and no node or edge has been added or removed since.
+    ///   Weights may have been written.
     ///
     /// # Complexity
     ///
     /// O(log(nodes)).
     pub fn next<N: Drop, E: Drop, S>(&mut self, dag: &Acyclic<N, E, Ix, S>) -> Option<NodeIndex<Ix>>
     where
-        S: Store<Ix, NodeWeight = N, EdgeWeight = E>,
+        S: ReadStore<Ix, NodeWeight = N, EdgeWeight = E>,
         requires { IsUnderWayByKey dag.now.graph self.old }
         ensures none { IsNone result ↔ (self.old.ready ≡ []) }
         ensures greatest { IfSome result (λ n.
@@ -154,7 +166,7 @@ impl<K: Ord + Drop, Ix: IndexType> ReadyByKey<K, Ix> {
         Some(n)
     }
 
-    /// Whether a node was handed out and is not done yet.
+    /// Whether [`next`](ReadyByKey::next) returned the node and it is not done yet.
     pub fn is_out(&self, n: NodeIndex<Ix>) -> bool
         ensures { IsTrue result ↔ IsOut (work_of self.now) (Ix.number n) }
     {
@@ -162,15 +174,21 @@ impl<K: Ord + Drop, Ix: IndexType> ReadyByKey<K, Ix> {
         i < self.out.len() && self.out[i] && self.inner.is_out(n)
     }
 
-    /// Notes that a node that was handed out is done. Its children whose parents are all done then
-    /// are ready.
+    /// Marks `n` as done. Children whose parents are now all done become ready.
+    ///
+    /// # Requires
+    ///
+    /// - `under_way`: The work was started on this `dag`, and no node or edge has been added or
+    ///   removed since. Weights may have been written.
+    /// - `out`: `next` returned `n`, and `n` has not been passed to `done` since. Test:
+    ///   `is_out(n)`.
     ///
     /// # Complexity
     ///
-    /// O(children of the node), and O(log(nodes)) for each child that is ready then.
+    /// O(children of the node), plus O(log(nodes)) for each child that becomes ready.
     pub fn done<N: Drop, E: Drop, S>(&mut self, dag: &Acyclic<N, E, Ix, S>, n: NodeIndex<Ix>)
     where
-        S: Store<Ix, NodeWeight = N, EdgeWeight = E>,
+        S: ReadStore<Ix, NodeWeight = N, EdgeWeight = E>,
         requires under_way { IsUnderWayByKey dag.now.graph self.old }
         requires out { IsOut (work_of self.old) (Ix.number n) }
         ensures done { (m : ℕ)
@@ -186,7 +204,7 @@ impl<K: Ord + Drop, Ix: IndexType> ReadyByKey<K, Ix> {
         gather(dag, &mut self.inner, &mut self.later, &mut self.candidates);
     }
 
-    /// Whether no node is ready and none is out. That is so exactly if all nodes are done.
+    /// Whether all nodes are done: none is ready, and none that was returned is left to be done.
     pub fn is_finished(&self) -> bool
         ensures { IsTrue result ↔ IsIdle (work_of self.now) }
     {
@@ -201,7 +219,7 @@ fn keys_by_index<K: Drop, N: Drop, E: Drop, Ix: IndexType, S, F: Fn(NodeIndex<Ix
     key: F,
 ) -> Result<Vec<Option<K>>, AllocError>
 where
-    S: Store<Ix, NodeWeight = N, EdgeWeight = E>,
+    S: ReadStore<Ix, NodeWeight = N, EdgeWeight = E>,
     requires { CanCallAtEachNode Ix.of F.pre key dag.now.graph }
     ensures sized { IfOk result (λ keys. vec_len keys ≡ node_bound dag.now.graph) }
     ensures called { IfOk result (λ keys.
@@ -231,7 +249,7 @@ fn gather<K: Ord + Drop, N: Drop, E: Drop, Ix: IndexType, S>(
     candidates: &mut Candidates<Reverse<K>, Ix>,
 )
 where
-    S: Store<Ix, NodeWeight = N, EdgeWeight = E>,
+    S: ReadStore<Ix, NodeWeight = N, EdgeWeight = E>,
     requires under_way { IsUnderWay dag.now.graph ready.old }
     requires keyed { (n : ℕ) → HasNode dag.now.graph n → ¬ IsSet ready.old.out n
         → Contains (nodes_of (keys_from 0 keys.old.items)) n }

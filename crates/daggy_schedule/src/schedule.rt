@@ -1,13 +1,14 @@
 //! How early and how late the nodes of a dag can start, with a duration for each.
 ghost use Rattle.std.specs.Prelude.{◌≡◌, ℕ, ◌+◌, List, map, Err, IfOk, vec_len, slice_index};
 ghost use Rattle.daggy_base.specs.Graph.{HasNode, node_bound};
-ghost use Rattle.daggy_schedule.specs.Times.{CanCallAtEachNode, AreDurations, TakesTooLong};
-ghost use Rattle.daggy_schedule.specs.Times.{AreEarliest, AreLatest, IsMakespan, IsCritical};
+ghost use Rattle.daggy_schedule.specs.Times.{CanCallAtEachNode, AreDurations, IsZeroElsewhere};
+ghost use Rattle.daggy_schedule.specs.Times.{TakesTooLong};
+ghost use Rattle.daggy_schedule.specs.Times.{AreEarliest, AreLatest, IsMakespan, IsCritical, IsTracedBack};
 ghost use Rattle.daggy_schedule.specs.declared.schedule.ScheduleError.TheVariants.{Overflow};
 ghost use Rattle.daggy_schedule.specs.declared.schedule.ScheduleError.TheVariants.{Memory as OutOfMemory};
 
 use daggy_base::index::{DefaultIx, IndexType, NodeIndex};
-use daggy_base::store::Store;
+use daggy_base::read_store::ReadStore;
 use daggy_dag::acyclic::Acyclic;
 use std::alloc::{AllocError, Global};
 use thiserror::Error;
@@ -18,28 +19,32 @@ mod late;
 use early::{earliest, path_back};
 use late::{nodes_in_order, slack_of};
 
-/// When each node of a dag starts and finishes. The lists are by node index, with 0 where there is
-/// no node.
-#[derive(Debug, Drop)]
+/// When each node of a dag starts and finishes. The lists are indexed by node, with 0 at indices
+/// without a node.
+#[derive(Debug, Drop, Eq, PartialEq)]
 pub struct Schedule<Ix: IndexType = DefaultIx> {
-    /// How long each node takes.
+    /// The duration of each node.
     pub durations: Vec<u64>,
-    /// When each node can start at the earliest: all of its parents have finished.
+    /// The earliest start of each node: the time when all of its parents have finished.
     pub starts: Vec<u64>,
-    /// When each node finishes if it starts at the earliest.
+    /// The earliest finish of each node.
     pub finishes: Vec<u64>,
-    /// How much later each node can start, with no later makespan.
+    /// The slack of each node: how much later it can start without a greater makespan.
     pub slack: Vec<u64>,
-    /// A path whose durations sum up to the makespan. Empty only if there are no nodes.
+    /// A path whose durations sum up to the makespan. Empty only if there are no nodes. It ends
+    /// with the lowest-index node of those that finish last, and each node comes after the
+    /// lowest-index parent of those that finish last. So it depends only on the nodes, the adjacent
+    /// pairs and the durations, and not on how the dag was built.
     pub critical: Vec<NodeIndex<Ix>>,
-    /// When all nodes have finished, at the earliest.
+    /// The length of the schedule: the greatest finish, or 0 if there are no nodes.
     pub makespan: u64,
 }
 
 /// Why there is no schedule.
 #[derive(Clone, Copy, Debug, Eq, Error, PartialEq)]
 pub enum ScheduleError {
-    /// The durations along some path, or of all nodes on workers, sum up to 2^64 or more.
+    /// The durations along some path sum up to 2^64 or more, or the makespan on workers may be so
+    /// long.
     #[error("the nodes take too long")]
     Overflow,
     /// An allocation failed.
@@ -57,7 +62,13 @@ impl From<AllocError> for ScheduleError {
 
 impl<Ix: IndexType> Schedule<Ix> {
     /// When each node can start and finish if it waits only for its parents, how much later it can
-    /// start, and a critical path. `durations` is called once with each node.
+    /// start, and a critical path: the critical path method (Kelley and Walker 1959), by a pass
+    /// along the dag's order and one against it. `durations` is called once with each node; the
+    /// unit is up to the caller.
+    ///
+    /// # Requires
+    ///
+    /// - `durations` may be called with each node and its weight.
     ///
     /// # Errors
     ///
@@ -88,7 +99,7 @@ impl<Ix: IndexType> Schedule<Ix> {
         durations: F,
     ) -> Result<Self, ScheduleError>
     where
-        S: Store<Ix, NodeWeight = N, EdgeWeight = E>,
+        S: ReadStore<Ix, NodeWeight = N, EdgeWeight = E>,
         requires { CanCallAtEachNode Ix.of F.pre durations dag.now.graph }
         ensures sized { IfOk result (λ s. (vec_len s.durations ≡ node_bound dag.now.graph)
             × (vec_len s.starts ≡ node_bound dag.now.graph)
@@ -107,6 +118,16 @@ impl<Ix: IndexType> Schedule<Ix> {
             (λ n. slice_index s.starts.items n + slice_index s.slack.items n) s.makespan) }
         ensures critical { IfOk result (λ s. IsCritical dag.now.graph s.durations.items
             (map Ix.number s.critical.items) s.makespan) }
+        ensures traced_back { IfOk result (λ s. IsTracedBack dag.now.graph
+            (slice_index s.finishes.items) (map Ix.number s.critical.items)) }
+        ensures durations_elsewhere { IfOk result (λ s.
+            IsZeroElsewhere dag.now.graph s.durations.items) }
+        ensures starts_elsewhere { IfOk result (λ s.
+            IsZeroElsewhere dag.now.graph s.starts.items) }
+        ensures finishes_elsewhere { IfOk result (λ s.
+            IsZeroElsewhere dag.now.graph s.finishes.items) }
+        ensures slack_elsewhere { IfOk result (λ s.
+            IsZeroElsewhere dag.now.graph s.slack.items) }
         ensures fits { IfOk result (λ s. ¬ TakesTooLong dag.now.graph s.durations.items) }
         ensures overflow { result ≡ Err Overflow → (durations' : List ℕ)
             × AreDurations Ix.of F.post durations dag.now.graph durations'
@@ -141,11 +162,12 @@ fn durations_of<N: Drop, E: Drop, Ix: IndexType, S, F: Fn(NodeIndex<Ix>, &N) -> 
     f: F,
 ) -> Result<Vec<u64>, AllocError>
 where
-    S: Store<Ix, NodeWeight = N, EdgeWeight = E>,
+    S: ReadStore<Ix, NodeWeight = N, EdgeWeight = E>,
     requires { CanCallAtEachNode Ix.of F.pre f dag.now.graph }
     ensures called { IfOk result (λ durations.
         AreDurations Ix.of F.post f dag.now.graph durations.items) }
     ensures sized { IfOk result (λ durations. vec_len durations ≡ node_bound dag.now.graph) }
+    ensures elsewhere { IfOk result (λ durations. IsZeroElsewhere dag.now.graph durations.items) }
 {
     let store = dag.graph();
     let bound = store.node_bound();

@@ -34,6 +34,7 @@ use daggy_base::command::{Neighbor, NewEdge};
 use daggy_base::error::{ChildError, EdgeError, EdgesError, NodeError};
 use daggy_base::index::{Direction, EdgeIndex, IndexType, NodeIndex};
 use daggy_base::kind::Kind;
+use daggy_base::read_store::ReadStore;
 use daggy_base::source::EdgeSource;
 use daggy_base::store::Store;
 use daggy_dag::acyclic::{Acyclic, TopologicalOrder};
@@ -42,7 +43,7 @@ use daggy_visit::walk;
 use std::alloc::{AllocError, Global};
 
 // The edges of a node's list in direction `dir` with their far ends.
-fn walk_along<Ix: IndexType, S: Store<Ix>>(
+fn walk_along<Ix: IndexType, S: ReadStore<Ix>>(
     alloc: Global,
     store: &S,
     dir: Direction,

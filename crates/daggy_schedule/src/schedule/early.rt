@@ -1,17 +1,19 @@
-//! The earliest starts, along the order of a dag.
-ghost use Rattle.std.specs.Prelude.{◌≡◌, ℕ, ◌≤◌, ◌<◌, ◌⊎◌, List, [], map, length, Err, IfOk};
+//! Earliest starts, computed in topological order.
+ghost use Rattle.std.specs.Prelude.{◌≡◌, ℕ, ◌≤◌, ◌<◌, ◌↔◌, ◌⊎◌, List, [], map, length, Err};
+ghost use Rattle.std.specs.Prelude.{IfOk, IsTrue};
 ghost use Rattle.std.specs.Prelude.{vec_len, slice_index, slice_set};
 ghost use Rattle.daggy_base.specs.Graph.{HasNode, node_bound};
 ghost use Rattle.daggy_base.specs.Ordered.{IsOrderOf};
 ghost use Rattle.daggy_base.specs.Path.{AreJoined, IsPath};
-ghost use Rattle.daggy_schedule.specs.Times.{span, TakesTooLong, AreEarliest};
-ghost use Rattle.daggy_schedule.specs.Passes.{AreDelayed, AreNoted, IsLast};
+ghost use Rattle.daggy_schedule.specs.Times.{span, TakesTooLong, AreEarliest, IsZeroElsewhere};
+ghost use Rattle.daggy_schedule.specs.Times.{IsLowestLast, IsTracedBack};
+ghost use Rattle.daggy_schedule.specs.Passes.{AreDelayed, AreNoted, IsLast, GoesBefore};
 ghost use Rattle.daggy_schedule.specs.declared.schedule.ScheduleError.TheVariants.{Overflow};
 
 use crate::schedule::ScheduleError;
 use daggy_base::index::{Direction, EdgeIndex, IndexType, NodeIndex};
 use daggy_base::link::Link;
-use daggy_base::store::Store;
+use daggy_base::read_store::ReadStore;
 use daggy_dag::acyclic::Acyclic;
 use std::alloc::{AllocError, Global};
 
@@ -20,13 +22,27 @@ use std::alloc::{AllocError, Global};
 pub(super) struct Early<Ix: IndexType> {
     pub starts: Vec<u64>,
     pub finishes: Vec<u64>,
-    // By node index, the parent whose end the node waits for, if any.
+    // By node index, the parent that finishes last, of several the lowest, if there is any.
     pub parents: Vec<Link<Ix>>,
     pub makespan: u64,
     pub last: NodeIndex<Ix>,
 }
 
-// Lets a node start no earlier than at a time, and notes the node that it waits for.
+// Whether a node goes before another in what is noted: it finishes later, or at the same time and has
+// the lower index. All go before `end` at time 0.
+fn goes_before<Ix: IndexType>(
+    finish: u64,
+    n: NodeIndex<Ix>,
+    time: u64,
+    other: NodeIndex<Ix>,
+) -> bool
+    ensures { IsTrue result ↔ GoesBefore finish (Ix.number n) time (Ix.number other) }
+{
+    time < finish || (time == finish && n.index() < other.index())
+}
+
+// Lets a node start no earlier than its parent `n` finishes, and notes `n` if it goes before the
+// parent that was noted.
 fn delay<Ix: IndexType>(
     starts: &mut Vec<u64>,
     parents: &mut Vec<Link<Ix>>,
@@ -36,21 +52,23 @@ fn delay<Ix: IndexType>(
 )
     requires starts { i < vec_len starts.old }
     requires parents { i < vec_len parents.old }
-    ensures later { finish < slice_index starts.old.items i
+    ensures later { ¬ GoesBefore finish (Ix.number n) (slice_index starts.old.items i)
+        (slice_index parents.old.items i)
         → (starts.new.items ≡ starts.old.items) × (parents.new.items ≡ parents.old.items) }
-    ensures put { slice_index starts.old.items i ≤ finish
+    ensures put { GoesBefore finish (Ix.number n) (slice_index starts.old.items i)
+        (slice_index parents.old.items i)
         → (starts.new.items ≡ slice_set starts.old.items i finish)
         × (parents.new.items ≡ slice_set parents.old.items i (Ix.number n)) }
 {
-    if starts[i] <= finish {
+    if goes_before(finish, n, starts[i], parents[i].node()) {
         starts[i] = finish;
         parents[i] = Link::of_node(n);
     }
 }
 
-// Lets the children of a node start no earlier than it finishes, and notes for each the parent that
-// it waits for.
-fn delay_children<Ix: IndexType, S: Store<Ix>>(
+// Lets the children of a node start no earlier than it finishes, and notes it for each whose noted
+// parent it goes before.
+fn delay_children<Ix: IndexType, S: ReadStore<Ix>>(
     store: &S,
     n: NodeIndex<Ix>,
     finish: u64,
@@ -76,17 +94,19 @@ fn delay_children<Ix: IndexType, S: Store<Ix>>(
     }
 }
 
-// The later of two times, with its node.
+// The later of two times with its node, the lower of the two nodes if the times are equal.
 fn later_of<Ix: IndexType>(
     makespan: u64,
     last: NodeIndex<Ix>,
     finish: u64,
     n: NodeIndex<Ix>,
 ) -> (u64, NodeIndex<Ix>)
-    ensures later { finish < makespan → (result.0 ≡ makespan) × (result.1 ≡ last) }
-    ensures taken { makespan ≤ finish → (result.0 ≡ finish) × (result.1 ≡ n) }
+    ensures later { ¬ GoesBefore finish (Ix.number n) makespan (Ix.number last)
+        → (result.0 ≡ makespan) × (result.1 ≡ last) }
+    ensures taken { GoesBefore finish (Ix.number n) makespan (Ix.number last)
+        → (result.0 ≡ finish) × (result.1 ≡ n) }
 {
-    if makespan <= finish {
+    if goes_before(finish, n, makespan, last) {
         (finish, n)
     } else {
         (makespan, last)
@@ -100,7 +120,7 @@ pub(super) fn earliest<N: Drop, E: Drop, Ix: IndexType, S>(
     durations: &[u64],
 ) -> Result<Early<Ix>, ScheduleError>
 where
-    S: Store<Ix, NodeWeight = N, EdgeWeight = E>,
+    S: ReadStore<Ix, NodeWeight = N, EdgeWeight = E>,
     requires { node_bound dag.now.graph ≤ length durations.now }
     ensures noted { IfOk result (λ r. AreNoted Ix.greatest dag.now.graph durations.now
         r.starts.items r.parents.items r.finishes.items) }
@@ -111,6 +131,8 @@ where
     ensures sized { IfOk result (λ r. (vec_len r.starts ≡ node_bound dag.now.graph)
         × (vec_len r.finishes ≡ node_bound dag.now.graph)
         × (vec_len r.parents ≡ node_bound dag.now.graph)) }
+    ensures elsewhere { IfOk result (λ r. IsZeroElsewhere dag.now.graph r.starts.items
+        × IsZeroElsewhere dag.now.graph r.finishes.items) }
     ensures overflow { result ≡ Err Overflow → TakesTooLong dag.now.graph durations.now }
 {
     let store = dag.graph();
@@ -155,7 +177,7 @@ pub(super) fn path_back<N: Drop, E: Drop, Ix: IndexType, S>(
     parents: &[Link<Ix>],
 ) -> Result<Vec<NodeIndex<Ix>>, AllocError>
 where
-    S: Store<Ix, NodeWeight = N, EdgeWeight = E>,
+    S: ReadStore<Ix, NodeWeight = N, EdgeWeight = E>,
     requires ordered { IsOrderOf dag.now.graph (map Ix.number _order.now) }
     requires fits { node_bound dag.now.graph ≤ length parents.now }
     requires parents { (n : ℕ) → HasNode dag.now.graph n
@@ -170,6 +192,10 @@ where
         → HasNode dag.now.graph (Ix.number last)
         → AreNoted Ix.greatest dag.now.graph durations starts parents.now finishes
         → span durations (map Ix.number path.items) ≡ slice_index finishes (Ix.number last)) }
+    ensures traced_back { IfOk result (λ path. (durations starts finishes : List ℕ)
+        → IsLowestLast (HasNode dag.now.graph) (slice_index finishes) (Ix.number last)
+        → AreNoted Ix.greatest dag.now.graph durations starts parents.now finishes
+        → IsTracedBack dag.now.graph (slice_index finishes) (map Ix.number path.items)) }
 {
     let _count = dag.node_count();
     let end = NodeIndex::<Ix>::end().index();

@@ -1,19 +1,19 @@
-//! How much later nodes can start, against the order of a dag.
+//! The slack of each node, computed in reverse topological order.
 ghost use Rattle.std.specs.Prelude.{◌≡◌, ℕ, ◌≤◌, map, length, IfOk, vec_len, slice_index};
 ghost use Rattle.daggy_base.specs.Graph.{node_bound};
 ghost use Rattle.daggy_base.specs.Ordered.{IsOrderOf};
 ghost use Rattle.daggy_base.specs.Path.{AreJoined};
-ghost use Rattle.daggy_schedule.specs.Times.{AreEarliest, AreLatest};
+ghost use Rattle.daggy_schedule.specs.Times.{AreEarliest, AreLatest, IsZeroElsewhere};
 ghost use Rattle.daggy_schedule.specs.Passes.{AreNoted, IsLast, IsLatestFinish, later_by};
 
 use crate::schedule::early::Early;
 use daggy_base::index::{Direction, EdgeIndex, IndexType, NodeIndex};
-use daggy_base::store::Store;
+use daggy_base::read_store::ReadStore;
 use daggy_dag::acyclic::Acyclic;
 use std::alloc::{AllocError, Global};
 
 // The latest time at which a node can finish, by the latest starts of its children.
-fn latest_finish<Ix: IndexType, S: Store<Ix>>(
+fn latest_finish<Ix: IndexType, S: ReadStore<Ix>>(
     store: &S,
     n: NodeIndex<Ix>,
     makespan: u64,
@@ -48,7 +48,7 @@ pub(super) fn nodes_in_order<N: Drop, E: Drop, Ix: IndexType, S>(
     dag: &Acyclic<N, E, Ix, S>,
 ) -> Result<Vec<NodeIndex<Ix>>, AllocError>
 where
-    S: Store<Ix, NodeWeight = N, EdgeWeight = E>,
+    S: ReadStore<Ix, NodeWeight = N, EdgeWeight = E>,
     ensures { IfOk result (λ order. IsOrderOf dag.now.graph (map Ix.number order.items)) }
 {
     let mut order = Vec::new(alloc);
@@ -68,7 +68,7 @@ pub(super) fn slack_of<N: Drop, E: Drop, Ix: IndexType, S>(
     early: &Early<Ix>,
 ) -> Result<Vec<u64>, AllocError>
 where
-    S: Store<Ix, NodeWeight = N, EdgeWeight = E>,
+    S: ReadStore<Ix, NodeWeight = N, EdgeWeight = E>,
     requires ordered { IsOrderOf dag.now.graph (map Ix.number order.now) }
     requires noted { AreNoted Ix.greatest dag.now.graph durations.now early.now.starts.items
         early.now.parents.items early.now.finishes.items }
@@ -79,6 +79,7 @@ where
     requires starts { vec_len early.now.starts ≡ node_bound dag.now.graph }
     requires finishes { vec_len early.now.finishes ≡ node_bound dag.now.graph }
     ensures sized { IfOk result (λ slack. vec_len slack ≡ node_bound dag.now.graph) }
+    ensures elsewhere { IfOk result (λ slack. IsZeroElsewhere dag.now.graph slack.items) }
     ensures latest { IfOk result (λ slack. AreLatest dag.now.graph durations.now
         (later_by early.now.starts.items slack.items) early.now.makespan) }
 {

@@ -13,6 +13,7 @@ use Rattle.daggy_base.specs.Graph.{Graph, node_bound}
 use Rattle.daggy_base.specs.WellFormed.{IsWellFormed}
 use Rattle.daggy_base.proofs.OutEdgesRead.{below_bound}
 use Rattle.daggy_schedule.specs.Work.{Work}
+use Rattle.daggy_schedule.specs.Times.{IsZeroElsewhere}
 use Rattle.daggy_schedule.specs.Passes.{later_by}
 use Rattle.daggy_schedule.specs.Workers.{Progress, Begins, Finishes, IsTooLate}
 use Rattle.daggy_schedule.proofs.Workers.{taken_contains}
@@ -129,7 +130,8 @@ returns-in_err-begin_next-clause-overflow g c is =
     let error = c.in_err-begin_next.field-0.0 in
     let E : _ → Type 0 = λ z. IsErrAnd z (λ e. e ≡ error) in
     let same : Overflow ≡ error = subst E is c.from_residual-in_err-begin_next.ensures.1 in
-    working_too_late c.begin.invariant.working w
+    working_too_late c.begin.invariant.working w c.requires.some
+    (map g.Ix.IndexType.number c.args.plan.now.critical.items) c.args.plan.now.makespan c.requires.critical c.requires.met
     (subst P c.as_slice.ensures.value (c.in_err-begin_next.ensures.overflow (ap Err (sym same))))
 
 pub begin-smaller : goal.begin-smaller
@@ -167,6 +169,18 @@ returns-in_default-2-clause-sized g c =
     let P : Progress → Type 0 = λ z. (length z.starts ≡ node_bound c.args.dag.now.graph)
     × (length z.workers ≡ node_bound c.args.dag.now.graph) in
     subst P (sym (none.1 ∙ stuck.0)) (w.starts_long, w.workers_long)
+
+pub returns-in_default-2-clause-elsewhere : goal.returns-in_default-2-clause-elsewhere
+returns-in_default-2-clause-elsewhere g c =
+    let stuck = c.in_ok-begin_next.ensures.stuck (ap Ok c.if-branch.false) in
+    let w = c.begin.invariant.working in
+    let M : _ → Type 0 = λ z. MatchOption z ((c.begin_next.new.self.running ≡ [])
+    × (c.finish_next.new.self ≡ c.begin_next.new.self)) (λ n.
+    Finishes (g.Ix.IndexType.number n) c.begin_next.new.self c.finish_next.new.self) in
+    let none = subst M c.in_default-2.is c.in_ok-n.ensures in
+    let P : Progress → Type 0 = λ z. IsZeroElsewhere c.args.dag.now.graph z.starts
+    × IsZeroElsewhere c.args.dag.now.graph z.workers in
+    subst P (sym (none.1 ∙ stuck.0)) (w.starts_elsewhere, w.workers_elsewhere)
 
 pub returns-in_default-2-clause-assigned : goal.returns-in_default-2-clause-assigned
 returns-in_default-2-clause-assigned g c =
@@ -261,7 +275,7 @@ returns-in_default-2-clause-near_best g c =
     let runs = subst R stuck.0 none.0 in
     let P : Progress → Type 0 = λ z. IsNearBest graph plan.durations.items c.args.count z.now in
     subst P (sym (none.1 ∙ stuck.0))
-    (near_best c.in_ok-ready.ensures.ready.0 c.in_ok-ready.ensures.ready.1 c.requires.some
+    (near_best c.topological_order-order.result c.topological_order-order.ensures.ordered c.requires.some
     (working_bound c.begin.invariant.working w c.begin.invariant.none_ready runs stuck.1 c.requires.some
     (map g.Ix.IndexType.number plan.critical.items) plan.makespan c.requires.critical c.requires.met))
 

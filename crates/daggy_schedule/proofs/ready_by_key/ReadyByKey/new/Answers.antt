@@ -75,7 +75,7 @@ returns-clause-ready g c =
     c.gather.new.candidates.items (taken g c) c.resize.new.self.items (unset g c) (flagged g c) c.gather.new.keys.items
     c.gather.new.candidates.capacity more.room in
     let P : List ℕ → Type 0 = λ z. IsPermutation z (nodes_of (turned_back c.gather.new.candidates.items)) in
-    (first.ready.0, first.ready.1, subst P first.ready.2 here)
+    subst P first.ready here
 
 pub returns-clause-keys : goal.returns-clause-keys
 returns-clause-keys g c =

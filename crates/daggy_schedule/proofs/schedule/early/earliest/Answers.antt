@@ -1,12 +1,13 @@
 use Rattle.std.proofs.Common.{rules, ◌≡◌, ◌<◌, ◌≤◌, ◌∙◌, ℕ, List, sym, ap, subst, refl, arith, length}
-use Rattle.std.proofs.Common.{get_or, replicate}
+use Rattle.std.proofs.Common.{get_or, replicate, set}
 use Rattle.std.proofs.lemmas.List.{get_or_read}
 use Rattle.daggy_base.specs.Graph.{Graph, node_bound}
 use Rattle.daggy_base.specs.Ordered.{IsOrderOf}
 use Rattle.daggy_base.proofs.OutEdgesRead.{below_bound}
-use Rattle.daggy_schedule.specs.Times.{AreEarliest, TakesTooLong}
+use Rattle.daggy_schedule.specs.Times.{AreEarliest, IsZeroElsewhere, TakesTooLong}
 use Rattle.daggy_schedule.specs.Passes.{AreNoted, IsLast}
 use Rattle.daggy_schedule.proofs.Starting.{resized}
+use Rattle.daggy_schedule.proofs.Elsewhere.{zeros_elsewhere, set_elsewhere, delayed_elsewhere}
 use Rattle.daggy_schedule.proofs.Timing.{Timing, timing_none, timing_one, next_exists, takes_too_long}
 use Rattle.daggy_schedule.proofs.Timing.{all_noted, all_earliest, last_finish}
 use Rattle.daggy_schedule.proofs.schedule.early.earliest.Given.{Over}
@@ -70,6 +71,8 @@ nodes-init g c =
       starts_sized = omega (arith, c.in_ok-resize.ensures.len, c.node_bound-bound.ensures.value);
       parents_sized = omega (arith, c.in_ok-resize-3.ensures.len, c.node_bound-bound.ensures.value);
       finishes_sized = omega (arith, c.in_ok-resize-2.ensures.len, c.node_bound-bound.ensures.value);
+      starts_elsewhere = zeros_elsewhere graph c.resize.new.self.items bound starts;
+      finishes_elsewhere = zeros_elsewhere graph c.resize-2.new.self.items bound finishes;
       timing = record {
         order = order;
         ordered = subst O (sym c.graph-store.ensures.graph) c.topological_order-nodes.ensures.ordered;
@@ -130,6 +133,12 @@ nodes-preserved g c =
       starts_sized = c.delay_children.ensures.starts ∙ s.starts_sized;
       parents_sized = c.delay_children.ensures.parents ∙ s.parents_sized;
       finishes_sized = s.finishes_sized;
+      starts_elsewhere =
+          delayed_elsewhere (g.S.EdgeSource.graph c.graph-store.result.now) c.node_bound-bound.ensures.well_formed c.delay_children.ensures.delayed s.starts_elsewhere;
+      finishes_elsewhere =
+          set_elsewhere (g.S.EdgeSource.graph c.graph-store.result.now) _ _ _ _
+          (next_exists c.node_bound-bound.ensures.well_formed s.timing.ordered c.in-Some.ensures.steps s.timing.timing)
+          s.finishes_elsewhere (ap (λ z. set c.nodes.finishes.items z c.in-Some-checked_add.finish) c.index-i.ensures.value);
       timing = record {
         order = s.timing.order;
         ordered = s.timing.ordered;
@@ -173,6 +182,12 @@ returns-clause-last g c =
     IsLast g.Ix.IndexType.greatest z c.nodes.finishes.items c.nodes.makespan (g.Ix.IndexType.number c.nodes.last) in
     subst P c.graph-store.ensures.graph
     (last_finish c.node_bound-bound.ensures.well_formed s.ordered c.in_default.ensures.steps.0 s.timing)
+
+pub returns-clause-elsewhere : goal.returns-clause-elsewhere
+returns-clause-elsewhere g c =
+    let s = c.nodes.invariant in
+    let P : Graph _ _ → Type 0 = λ z. IsZeroElsewhere z c.nodes.starts.items × IsZeroElsewhere z c.nodes.finishes.items in
+    subst P c.graph-store.ensures.graph (s.starts_elsewhere, s.finishes_elsewhere)
 
 pub returns-clause-sized : goal.returns-clause-sized
 returns-clause-sized g c =

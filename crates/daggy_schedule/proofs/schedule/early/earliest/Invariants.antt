@@ -1,5 +1,6 @@
 use Rattle.std.proofs.Common.{◌≡◌, length, vec_len}
 use Rattle.daggy_base.specs.Graph.{node_bound}
+use Rattle.daggy_schedule.specs.Times.{IsZeroElsewhere}
 use Rattle.daggy_schedule.proofs.Timing.{IsTiming}
 use Rattle.daggy_schedule.proofs.schedule.early.earliest.Given as goal
 
@@ -9,6 +10,8 @@ invariant-nodes g l =
       starts_sized : vec_len l.starts ≡ node_bound (g.S.EdgeSource.graph l.store);
       parents_sized : vec_len l.parents ≡ node_bound (g.S.EdgeSource.graph l.store);
       finishes_sized : vec_len l.finishes ≡ node_bound (g.S.EdgeSource.graph l.store);
+      starts_elsewhere : IsZeroElsewhere (g.S.EdgeSource.graph l.store) l.starts.items;
+      finishes_elsewhere : IsZeroElsewhere (g.S.EdgeSource.graph l.store) l.finishes.items;
       timing : IsTiming g.Ix.IndexType.greatest (g.S.EdgeSource.graph l.store) l.durations l.starts.items
           l.parents.items l.finishes.items l.makespan (g.Ix.IndexType.number l.last) l.nodes;
     }

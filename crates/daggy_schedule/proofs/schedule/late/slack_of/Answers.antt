@@ -7,6 +7,8 @@ use Rattle.daggy_base.specs.WellFormed.{IsWellFormed}
 use Rattle.daggy_base.proofs.OutEdgesRead.{below_bound}
 use Rattle.daggy_schedule.specs.Passes.{IsLatestFinish, later_by}
 use Rattle.daggy_schedule.proofs.Late.{Slackening, slack_none, parted_order, behind_node, order_exists, children_low}
+use Rattle.daggy_schedule.proofs.Starting.{resized}
+use Rattle.daggy_schedule.proofs.Elsewhere.{zeros_elsewhere, set_elsewhere}
 use Rattle.daggy_schedule.proofs.Late.{finish_low, slack_one, all_latest, drop_past}
 use Rattle.daggy_schedule.proofs.schedule.late.slack_of.Goals as goal
 
@@ -16,6 +18,10 @@ nodes-init g c =
     record {
       sized = c.in_ok-resize.ensures.len ∙ (c.node_bound.ensures.value ∙ ap node_bound c.graph-store.ensures.graph);
       within = omega arith;
+      elsewhere =
+          zeros_elsewhere c.args.dag.now.graph _ c.node_bound.result
+          (resized _ _ c.node_bound.result _ 0 c.new-slack.ensures.items c.new-slack.ensures.len
+          c.in_ok-resize.ensures.items);
       slackening =
           slack_none c.args.dag.now.graph c.args.durations.now
           (later_by c.args.early.now.starts.items c.resize.new.self.items) c.args.early.now.makespan
@@ -211,6 +217,7 @@ nodes-preserved g c =
     record {
       sized = s.sized;
       within = omega (arith, s.within);
+      elsewhere = set_elsewhere graph slack now n _ exists s.elsewhere is;
       slackening =
           subst E (sym (behind_node number c.args.order.now k c.index-order-k.result low c.index-order-k.is)) more;
     }

@@ -1,5 +1,6 @@
 use Rattle.std.proofs.Common.{◌≡◌, ◌≤◌, length, vec_len, map, drop}
 use Rattle.daggy_base.specs.Graph.{node_bound}
+use Rattle.daggy_schedule.specs.Times.{IsZeroElsewhere}
 use Rattle.daggy_schedule.specs.Passes.{later_by}
 use Rattle.daggy_schedule.proofs.Late.{Slackening}
 use Rattle.daggy_schedule.proofs.schedule.late.slack_of.Given as goal
@@ -9,6 +10,7 @@ invariant-nodes g l =
     record {
       sized : vec_len l.slack ≡ node_bound l.dag.graph;
       within : l.k ≤ length l.order;
+      elsewhere : IsZeroElsewhere l.dag.graph l.slack.items;
       slackening : Slackening l.dag.graph l.durations (later_by l.early.starts.items l.slack.items) l.early.makespan
           (drop l.k (map g.Ix.IndexType.number l.order));
     }
