@@ -42,6 +42,7 @@ pub use Rattle.daggy_base.specs.Ordered
 pub use Rattle.daggy_redundant.specs.Comparison
 pub use Rattle.daggy_reduction.specs.SearchSpan
 pub use Rattle.daggy_reduction.specs.AnyWeights
+pub use Rattle.daggy_reduction.specs.Blocks
 pub use Rattle.daggy_redundant.specs.KeptRoom
 pub use Rattle.daggy_reduction.specs.Descendants
 pub use Rattle.daggy_search.specs.Room
@@ -49,8 +50,10 @@ pub use Rattle.daggy_search.specs.Reversed
 pub use Rattle.daggy_order.specs.Paths
 pub use Rattle.daggy_dag.specs.Recomputing
 pub use Rattle.daggy_dag.specs.Retaining
-pub use Rattle.daggy_dag.specs.EdgePaths
+pub use Rattle.daggy_paths.specs.EdgePaths
 pub use Rattle.daggy_dag.specs.Connecting
+pub use Rattle.daggy_dag.specs.WholeReduction
+pub use Rattle.daggy_dag.specs.FromGraph
 pub use Rattle.daggy_schedule.specs.Work
 pub use Rattle.daggy_schedule.specs.Times
 pub use Rattle.daggy_schedule.specs.LeastFirst
@@ -61,10 +64,14 @@ pub use Rattle.daggy_traversal.specs.Breadth
 pub use Rattle.daggy_traversal.specs.Depth
 pub use Rattle.daggy_traversal.specs.Postorder
 pub use Rattle.daggy_named.specs.Naming
+pub use Rattle.daggy_named.specs.Asked
 pub use Rattle.daggy_named.specs.Refused
 pub use Rattle.daggy_named.specs.Lends as NamedLends
 pub use Rattle.daggy_dot.specs.Picture
 pub use Rattle.daggy_dot.specs.Escapes
+pub use Rattle.daggy_formats.specs.Document as Formats
+pub use Rattle.daggy_formats.specs.Escapes as FormatEscapes
+pub use Rattle.daggy_formats.specs.Lines as FormatLines
 pub use Rattle.daggy_base.specs.Look
 pub use Rattle.daggy_base.specs.Errors
 pub use Rattle.daggy_base.specs.Capacity
@@ -82,3 +89,17 @@ pub use Rattle.daggy_json.specs.Reading
 pub use Rattle.daggy_json.specs.Weight
 pub use Rattle.daggy_json.specs.Restoring
 pub use Rattle.daggy_json.specs.Streaming
+pub use Rattle.daggy_components.specs.Components
+pub use Rattle.daggy_components.specs.Condensation
+pub use Rattle.daggy_components.specs.Cycles
+pub use Rattle.daggy_components.specs.WeakComponents
+pub use Rattle.daggy_cycles.specs.CycleEdges
+pub use Rattle.daggy_cycles.specs.EdgeWays
+pub use Rattle.daggy_cycles.specs.Feedback
+pub use Rattle.daggy_cycles.specs.Shortest
+pub use Rattle.daggy_computed.specs.Computation as ComputedValues
+pub use Rattle.daggy_computed.specs.Inputs as ComputedInputs
+pub use Rattle.daggy_computed.specs.Marking
+pub use Rattle.daggy_computed.specs.Settling
+pub use Rattle.daggy_computed.specs.Recomputing as ComputedAnew
+pub use Rattle.daggy_computed.specs.Refreshing

@@ -1,9 +1,9 @@
 //! Directed acyclic graphs with weights at nodes and edges.
 //!
 //! A [`Dag`] stays acyclic: an edge is rejected if and only if its child already reaches its
-//! parent, and the error returns its weight. [`NodeIndex`] and [`EdgeIndex`] name nodes and edges.
-//! A [`Walker`], such as [`Children`], goes along a node's edges and borrows the dag only while it
-//! takes a step.
+//! parent, and the error returns its weight. [`NodeIndex`] and [`EdgeIndex`] identify nodes and
+//! edges. A [`Walker`], such as [`Children`], iterates over a node's edges and borrows the dag only
+//! while it takes a step.
 //!
 //! ```
 //! let mut dag: Dag<&'static str, u32> = Dag::new(rt.alloc());
@@ -15,15 +15,25 @@
 //!
 //! In a `Dag` a removal moves the last element into the freed index. The dag of [`stable_dag`]
 //! keeps the indices of everything else. Both are an [`Acyclic`] over a [`Store`], so that code can
-//! be written for either.
+//! be written for either; code that only reads is bounded by [`ReadStore`].
 //!
-//! [`graph`] and [`stable_graph`] are the stores below, which may hold cycles, [`search`] finds
-//! paths in any graph, and [`visit`] has traits for generic code. [`run`] carries out lists of
-//! commands over a dag of either kind, [`schedule`] works off its nodes, [`traversal`] walks over what
-//! a node reaches, and [`dot`] draws it. In [`named`] the nodes have keys.
+//! - [`named`]: dags whose nodes have keys, and whose methods require nothing; [`computed`]: dags
+//!   whose nodes have formulas and values.
+//! - [`schedule`]: ready queues, schedules and orders by keys; [`run`]: plans in stages, and lists
+//!   of commands.
+//! - [`traversal`]: breadth first and depth first; [`walker`]: walks along edges, and their
+//!   adapters; [`visit`]: traits for generic code.
+//! - [`json`]: dags as JSON; [`dot`]: dags as pictures of graphviz; [`formats`]: Mermaid, GraphML
+//!   and tables.
+//! - [`graph`] and [`stable_graph`]: the stores inside, which may hold cycles; [`search`]: paths,
+//!   orders and reductions of any graph; [`components`]: its components and cycles.
+//! - [`index`]: typed indices.
 #![tactic(auto)]
 
+pub mod components;
+pub mod computed;
 pub mod dot;
+pub mod formats;
 pub mod graph;
 pub mod index;
 pub mod json;
@@ -37,17 +47,20 @@ pub mod traversal;
 pub use daggy_base::element::IntoWeightedEdge;
 pub use daggy_base::error::{
     ChildError, EdgeError, EdgesError, ElementError, NodeError, ParentsError, SlotsError,
-    WouldCycle,
+    TryChildError, WouldCycle,
 };
 pub use daggy_base::index::{DefaultIx, Direction, EdgeIndex, IndexType, NodeIndex};
+pub use daggy_base::read_store::ReadStore;
 pub use daggy_base::store::Store;
 pub use daggy_cells::reference::EdgeReference;
 pub use daggy_dag::acyclic::{
-    Acyclic, Children, Dag, EdgeWeightsMut, EdgesConnecting, Externals, NodeWeightsMut, Parents,
-    RawEdges, RawNodes, RecursiveWalk, StableDag, TopologicalOrder, same_reachability,
+    Acyclic, Children, Dag, EdgeWeightsMut, EdgesConnecting, Externals, FromGraphError,
+    NodeWeightsMut, Parents, RawEdges, RawNodes, RecursiveWalk, StableDag, TopologicalOrder,
+    same_reachability,
 };
 pub use daggy_graph::graph::lists::Edges;
 pub use daggy_guard::edge_indices::EdgeIndices;
+pub use daggy_paths::Paths;
 pub use daggy_stable_dag::stable_dag;
 pub use daggy_visit::visit;
 pub use daggy_walk::walker;

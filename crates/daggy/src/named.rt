@@ -1,3 +1,7 @@
-//! Dags whose nodes are named by keys, and whose calls require nothing of their caller.
+//! Dags whose nodes have keys, and whose methods require nothing of their caller.
+//!
+//! A [`Named`] is a stable dag with a hash map of its keys. A key that is unknown or taken, an edge
+//! that would close a cycle and an index type without an index left are errors: [`AddError`] and
+//! [`DependError`].
 pub use daggy_named::error::{AddError, DependError};
-pub use daggy_named::named::Named;
+pub use daggy_named::named::{Dependency, Keys, Named, NeighborKeys};

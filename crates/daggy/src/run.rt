@@ -1,5 +1,8 @@
 //! Lists of commands over a dag of either kind, each with its reply, and plans of its nodes in
 //! stages.
+//!
+//! [`run`] carries out a list of [`Command`]s, and [`perform`] one of them; both test what the
+//! methods of a dag require. [`plan`] puts the nodes into the fewest possible stages.
 pub use daggy_base::command::{Back, Command, Neighbor, NewEdge, Reply};
 pub use daggy_base::kind::Kind;
 pub use daggy_run::guarded::GuardedDag;

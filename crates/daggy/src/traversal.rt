@@ -1,4 +1,7 @@
 //! Walks over the nodes that a node reaches: breadth first, depth first, and in postorder.
+//!
+//! Each goes along the edges or against them, over the graph of a dag or over any store, and is a
+//! [`Walker`](crate::Walker): it borrows the graph only while it takes a step.
 pub use daggy_traversal::bfs::Bfs;
 pub use daggy_traversal::dfs::Dfs;
 pub use daggy_traversal::post_order::DfsPostOrder;

@@ -1,0 +1,15 @@
+//! Components, the condensation and cycles of any graph whose edges can be read one at a time.
+//!
+//! [`strongly_connected_components`] finds the classes of nodes that reach each other,
+//! [`weakly_connected_components`] the classes of nodes that are connected whatever the direction
+//! of the edges, and [`find_cycle`] a cycle, if there is one. [`shortest_cycle`] finds a shortest
+//! one through a node, and [`feedback_arc_set`] edges to leave out so that there is none.
+//!
+//! The condensation of a graph has a node for each strongly connected component. [`condensed_dag`]
+//! makes a dag of it, and [`condensation`] a store.
+pub use daggy_components::{
+    Components, EdgeSlots, Iter, NodeSlots, condensation, condensation_slots, find_cycle,
+    strongly_connected_components, weakly_connected_components,
+};
+pub use daggy_condensation::condensed_dag;
+pub use daggy_cycles::{cycle_edges, feedback_arc_set, find_cycle_edges, shortest_cycle};
