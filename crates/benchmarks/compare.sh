@@ -1,6 +1,6 @@
 #!/usr/bin/env bash
 # Times this library and a peer on the same workloads, one run of each in turn, and prints the table of
-# docs/BENCHMARKS.md: two series, of each the medians, their ratio, and the ratio of the least times.
+# docs/internals/BENCHMARKS.md: two series, of each the medians, their ratio, and the ratio of the least times.
 #   compare.sh PEER_BENCH PEER_PROGRAM [ROW]
 # Either program may be -, and its rows are left out; with ROW, only the rows whose text contains it are printed.
 # PEER_BENCH NAME NODES EDGES [--kind stable] --reps COUNT prints a line that ends with seconds, the median of COUNT

@@ -27,9 +27,7 @@ pub fn number_nodes<E: Drop, Ix: IndexType>(
         let Some(n) = ready.next(dag) else {
             break;
         };
-        if let Some(weight) = dag.node_weight_mut(n) {
-            *weight = number;
-        }
+        dag[n] = number;
         number = number.wrapping_add(1);
         ready.done(dag, n);
     }

@@ -97,4 +97,11 @@ impl EdgeSource<u8> for Round {
         let child = self.children[e.index()];
         (NodeIndex::new(child as usize), EdgeIndex::end())
     }
+
+    fn count_looks(&mut self, taken: &Looks)
+        ensures same { self.new.graph ≡ self.old.graph }
+        ensures counted { self.new.looks ≡ self.old.looks + taken.now.count }
+    {
+        self.looks.add(taken);
+    }
 }

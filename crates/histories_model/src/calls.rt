@@ -48,6 +48,7 @@ pub enum Batch {
     RetainNodes(u64),
     RetainEdges(u64),
     TransitiveReduce(Vec<usize>),
+    TransitiveReduceAll,
 }
 
 /// A call that writes the whole dag, or makes another one of it, which replaces it.
@@ -58,6 +59,8 @@ pub enum Whole {
     Map(u64),
     // The same in place.
     Rewrite(u64),
+    // `inherited` with this number makes the new weights of the nodes, parents first.
+    Recompute(u64),
     // `keeps` and `changed` with this number.
     FilterMap(u64),
     // The nodes and edges are added to a compact dag, which is made one of this kind.
@@ -161,6 +164,11 @@ pub fn keeps(index: usize, weight: u64, salt: u64) -> bool {
 /// Another weight for a node or an edge with this index and this weight.
 pub fn changed(index: usize, weight: u64, salt: u64) -> u64 {
     mixed(index as u64, weight, salt) % 1000
+}
+
+/// Another weight for a node with this index, by the sum of its parents' weights.
+pub fn inherited(index: usize, parents: u64, salt: u64) -> u64 {
+    mixed(index as u64, parents, salt) % 1000
 }
 
 /// A key of a node with this index and this weight, one of few, so that some nodes have equal keys.

@@ -2,6 +2,8 @@
 //! allocation refused, and then with each in turn. In each test exactly one call answers that there
 //! was no memory if an allocation of the test was refused, and none does otherwise. Only the sort of
 //! a long series and a reduction by blocks can do without, and need not answer.
+//!
+//! It also counts the allocations, for the calls that make none (`quiet`).
 #![tactic(auto)]
 
 #[cfg(test)]
@@ -14,6 +16,8 @@ mod faults;
 mod observed;
 #[cfg(test)]
 mod queries;
+#[cfg(test)]
+mod quiet;
 #[cfg(test)]
 mod run_tests;
 #[cfg(test)]

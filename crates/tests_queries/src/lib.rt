@@ -3,8 +3,6 @@
 #![tactic(auto)]
 
 #[cfg(test)]
-mod first_example;
-#[cfg(test)]
 mod named;
 #[cfg(test)]
 mod pictures;

@@ -3,6 +3,7 @@
 
 mod keys;
 mod limits;
+mod questions;
 mod refusals;
 mod removals;
 mod steps;

@@ -105,6 +105,14 @@ fn draw_two_nodes<S: Store<u32, NodeWeight = Text, EdgeWeight = u32>>(
 }
 ";
     shows(rt, alloc, Dot::of_graph(&graph), text);
+    let text = "digraph {
+    rankdir = LR
+    0 [ label = \"sow\" ]
+    1 [ label = \"reap\" ]
+    0 -> 1 [ label = \"90\" ]
+}
+";
+    shows(rt, alloc, Dot::of_graph(&graph).left_to_right(), text);
 }
 
 #[test]

@@ -40,6 +40,10 @@ pub fn change_many<S: Kind>(alloc: Global, dag: &mut Numbers<S>, batch: &Batch) 
             dag.transitive_reduce(nodes(alloc, roots.as_slice())?)?;
             Ok(Answer::Done)
         }
+        Batch::TransitiveReduceAll => {
+            dag.transitive_reduce_all()?;
+            Ok(Answer::Done)
+        }
     }
 }
 

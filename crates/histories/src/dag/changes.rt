@@ -2,7 +2,7 @@
 use super::kinds::Kind;
 use super::{Ix, Numbers, edge, node};
 use anyhow::{Result, bail};
-use daggy::{ChildError, EdgeError, EdgeIndex, NodeIndex, WouldCycle};
+use daggy::{EdgeError, EdgeIndex, NodeError, NodeIndex, TryChildError, WouldCycle};
 use histories_model::answer::Answer;
 use histories_model::calls::Change;
 use std::alloc::Global;
@@ -10,16 +10,19 @@ use std::alloc::Global;
 /// Makes a change.
 pub fn change<S: Kind>(alloc: Global, dag: &mut Numbers<S>, change: &Change) -> Result<Answer> {
     match *change {
-        Change::AddNode(weight) => {
-            if !dag.can_add_node() {
-                return Ok(Answer::NoIndex);
-            }
-            Ok(Answer::Node(dag.add_node(weight)?.index()))
+        Change::AddNode(weight) => match dag.try_add_node(weight) {
+            Ok(n) => Ok(Answer::Node(n.index())),
+            Err(NodeError::Full(_)) => Ok(Answer::NoIndex),
+            Err(NodeError::Memory(_)) => bail!("out of memory"),
+        },
+        Change::AddEdge(a, b, weight) => of_pair(alloc, dag.try_add_edge(node(a), node(b), weight)),
+        Change::UpdateEdge(a, b, weight) => {
+            of_pair(alloc, dag.try_update_edge(node(a), node(b), weight))
         }
-        Change::AddEdge(a, b, weight) => add_edge(alloc, dag, node(a), node(b), weight),
-        Change::UpdateEdge(a, b, weight) => update_edge(alloc, dag, node(a), node(b), weight),
-        Change::AddChild(n, edge, weight) => add_neighbor(dag, node(n), edge, weight, true),
-        Change::AddParent(n, edge, weight) => add_neighbor(dag, node(n), edge, weight, false),
+        Change::AddChild(n, edge, weight) => of_neighbor(dag.try_add_child(node(n), edge, weight)),
+        Change::AddParent(n, edge, weight) => {
+            of_neighbor(dag.try_add_parent(node(n), edge, weight))
+        }
         Change::RemoveNode(n) => Ok(Answer::Weight(dag.remove_node(node(n)))),
         Change::RemoveEdge(e) => Ok(Answer::Weight(dag.remove_edge(edge(e)))),
         Change::WriteNode(n, weight) => Ok(Answer::Weight(write_node(dag, node(n), weight))),
@@ -55,60 +58,24 @@ pub fn of_error(alloc: Global, error: EdgeError<u64>) -> Result<Answer> {
     }
 }
 
-fn add_edge<S: Kind>(
-    alloc: Global,
-    dag: &mut Numbers<S>,
-    a: NodeIndex<Ix>,
-    b: NodeIndex<Ix>,
-    weight: u64,
-) -> Result<Answer> {
-    if !dag.contains_node(a) || !dag.contains_node(b) {
-        return Ok(Answer::Missing);
+// What the addition of an edge between two nodes answers.
+fn of_pair(alloc: Global, added: Result<EdgeIndex<Ix>, EdgeError<u64>>) -> Result<Answer> {
+    match added {
+        Err(EdgeError::BadEndpoint(_)) => Ok(Answer::Missing),
+        Err(EdgeError::Full(_)) => Ok(Answer::NoIndex),
+        added => of_edge(alloc, added),
     }
-    if !dag.can_add_edge() {
-        return Ok(Answer::NoIndex);
-    }
-    of_edge(alloc, dag.add_edge(a, b, weight))
 }
 
-fn update_edge<S: Kind>(
-    alloc: Global,
-    dag: &mut Numbers<S>,
-    a: NodeIndex<Ix>,
-    b: NodeIndex<Ix>,
-    weight: u64,
+// What the addition of a child or a parent of a node answers.
+fn of_neighbor(
+    added: Result<(EdgeIndex<Ix>, NodeIndex<Ix>), TryChildError<u64, u64>>,
 ) -> Result<Answer> {
-    if !dag.contains_node(a) || !dag.contains_node(b) {
-        return Ok(Answer::Missing);
-    }
-    if dag.find_edge(a, b).is_none() && !dag.can_add_edge() {
-        return Ok(Answer::NoIndex);
-    }
-    of_edge(alloc, dag.update_edge(a, b, weight))
-}
-
-// Adds a child or a parent of a node.
-fn add_neighbor<S: Kind>(
-    dag: &mut Numbers<S>,
-    n: NodeIndex<Ix>,
-    edge: u64,
-    weight: u64,
-    is_child: bool,
-) -> Result<Answer> {
-    if !dag.contains_node(n) {
-        return Ok(Answer::Missing);
-    }
-    if !dag.can_add_edge() || !dag.can_add_node() {
-        return Ok(Answer::NoIndex);
-    }
-    let added = if is_child {
-        dag.add_child(n, edge, weight)
-    } else {
-        dag.add_parent(n, edge, weight)
-    };
     match added {
         Ok((e, other)) => Ok(Answer::EdgeAndNode(e.index(), other.index())),
-        Err(ChildError::Memory(_, _)) => bail!("out of memory"),
+        Err(TryChildError::Missing(_, _)) => Ok(Answer::Missing),
+        Err(TryChildError::Full(_, _)) => Ok(Answer::NoIndex),
+        Err(TryChildError::Memory(_, _)) => bail!("out of memory"),
     }
 }
 

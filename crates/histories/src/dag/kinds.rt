@@ -8,7 +8,7 @@ use daggy::graph::DiGraph;
 use daggy::json::{ReadError, dag_from_json, dag_to_json, stable_from_json, stable_to_json};
 use daggy::stable_graph::StableDiGraph;
 use daggy::{Dag, Direction, EdgeIndex, EdgeReference, NodeIndex, StableDag, Store};
-use histories_model::calls::{Line, changed, keeps};
+use histories_model::calls::{Line, changed, inherited, keeps};
 use histories_model::model::Removal;
 use serde_json::Value;
 use std::alloc::{AllocError, Global};
@@ -25,6 +25,8 @@ pub trait Kind: Store<Ix, NodeWeight = u64, EdgeWeight = u64> {
 
     /// Writes such weights.
     fn rewrite(dag: &mut Numbers<Self>, salt: u64);
+
+    fn recompute(dag: &mut Numbers<Self>, salt: u64);
 
     /// The part that `keeps` chooses, with such weights.
     fn part(dag: &Numbers<Self>, salt: u64) -> Result<Numbers<Self>, AllocError>;
@@ -130,6 +132,16 @@ impl Kind for DiGraph<u64, u64, Ix> {
         dag.update_edge_weights(|e, w| *w = changed_edge(e, w, salt));
     }
 
+    fn recompute(dag: &mut Numbers<Self>, salt: u64) {
+        dag.recompute(|graph, n| {
+            let mut parents = 0u64;
+            for parent in graph.neighbors_directed(n, Direction::Incoming) {
+                parents = parents.wrapping_add(graph.node_weight(parent).copied().unwrap_or(0));
+            }
+            inherited(n.index(), parents, salt)
+        });
+    }
+
     fn part(dag: &Numbers<Self>, salt: u64) -> Result<Numbers<Self>, AllocError> {
         dag.filter_map(|n, w| kept_node(n, w, salt), |e, w| kept_edge(e, w, salt))
     }
@@ -198,6 +210,16 @@ impl Kind for StableDiGraph<u64, u64, Ix> {
     fn rewrite(dag: &mut Numbers<Self>, salt: u64) {
         dag.update_node_weights(|n, w| *w = changed_node(n, w, salt));
         dag.update_edge_weights(|e, w| *w = changed_edge(e, w, salt));
+    }
+
+    fn recompute(dag: &mut Numbers<Self>, salt: u64) {
+        dag.recompute(|graph, n| {
+            let mut parents = 0u64;
+            for parent in graph.neighbors_directed(n, Direction::Incoming) {
+                parents = parents.wrapping_add(graph.node_weight(parent).copied().unwrap_or(0));
+            }
+            inherited(n.index(), parents, salt)
+        });
     }
 
     fn part(dag: &Numbers<Self>, salt: u64) -> Result<Numbers<Self>, AllocError> {

@@ -25,6 +25,10 @@ pub fn make<S: Kind>(
             S::rewrite(dag, salt);
             Ok(Answer::Done)
         }
+        Whole::Recompute(salt) => {
+            S::recompute(dag, salt);
+            Ok(Answer::Done)
+        }
         Whole::WriteDocument => Ok(Answer::Text(written(alloc, dag)?)),
         Whole::Restore => read(alloc, dag, &S::document(alloc, dag)?),
         Whole::ReadDocument(salt) => read_text(alloc, dag, model.permuted_document(salt)?),

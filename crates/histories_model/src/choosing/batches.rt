@@ -30,7 +30,7 @@ pub fn choose_batch(
         81..=83 => Batch::RetainNodes(random.next()),
         84..=88 => Batch::RetainEdges(random.next()),
         _ if random.once_in(2) => Batch::TransitiveReduce(some_nodes(alloc, random, model)?),
-        _ => Batch::TransitiveReduce(model.existing()?),
+        _ => Batch::TransitiveReduceAll,
     })
 }
 

@@ -15,7 +15,7 @@ fn a_way(random: &mut Random) -> Way {
 
 /// A random call about the whole dag.
 pub fn choose_whole(random: &mut Random, model: &Model) -> Whole {
-    match random.below(9) {
+    match random.below(10) {
         0 => Whole::TryClone,
         1 => Whole::Map(random.next()),
         2 => Whole::FilterMap(random.next()),
@@ -24,6 +24,7 @@ pub fn choose_whole(random: &mut Random, model: &Model) -> Whole {
         5 => Whole::Restore,
         6 => Whole::Rewrite(random.next()),
         7 => Whole::ReadSlots(an_edge(random, model)),
+        8 => Whole::Recompute(random.next()),
         _ => Whole::ReadDocument(random.next()),
     }
 }

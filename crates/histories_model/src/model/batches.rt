@@ -30,6 +30,10 @@ impl Model {
             Batch::RetainNodes(salt) => self.retain_nodes(*salt),
             Batch::RetainEdges(salt) => self.retain_edges(*salt),
             Batch::TransitiveReduce(roots) => self.reduce(roots.as_slice()),
+            Batch::TransitiveReduceAll => {
+                let roots = self.existing()?;
+                self.reduce(roots.as_slice())
+            }
         }
     }
 

@@ -1,7 +1,7 @@
 //! Models made of a whole model.
 use super::{Edge, Model, Removal};
 use crate::answer::Answer;
-use crate::calls::{Whole, changed, keeps};
+use crate::calls::{Way, Whole, changed, inherited, keeps};
 use crate::random::mixed;
 use std::alloc::AllocError;
 
@@ -10,6 +10,7 @@ impl Model {
         match *whole {
             Whole::TryClone => {}
             Whole::Map(salt) | Whole::Rewrite(salt) => self.map(salt),
+            Whole::Recompute(salt) => self.recompute(salt)?,
             Whole::FilterMap(salt) => *self = self.filter_map(salt)?,
             Whole::FromDag => *self = self.added_anew()?,
             Whole::WriteDocument => return Ok(Answer::Text(self.document()?)),
@@ -40,6 +41,19 @@ impl Model {
                 edge.weight = changed(e, edge.weight, salt);
             }
         }
+    }
+
+    fn recompute(&mut self, salt: u64) -> Result<(), AllocError> {
+        for n in &self.order_by(salt)? {
+            let mut parents = 0u64;
+            for parent in self.neighbors(*n, Way::Up)?.iter() {
+                parents = parents.wrapping_add(self.node(*parent).unwrap_or(0));
+            }
+            if let Some(Some(weight)) = self.nodes.get_mut(*n) {
+                *weight = inherited(*n, parents, salt);
+            }
+        }
+        Ok(())
     }
 
     // The part that is kept, with other weights.

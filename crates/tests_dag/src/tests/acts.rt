@@ -4,6 +4,7 @@ use super::kinds::{Compact, Kind, Line, Made, Plain, Stable, Three, put_second};
 use super::retaining::{keep_edges, keep_nodes};
 use super::support::{edge, holds, made, node, same};
 use super::table::{Answer, Call, Row, play};
+use super::trying::{try_all, try_full};
 use super::visiting::{keep_pairs, read, reset, visit, write};
 use daggy_base::index::Direction;
 use daggy_dag::acyclic::Acyclic;
@@ -74,6 +75,12 @@ pub enum Act<'a> {
     ClosePath,
     /// A long chain is closed.
     CloseChain,
+    /// Additions that test their conditions are refused by an empty dag, and made.
+    TryAll,
+    /// No index is left for a node or an edge.
+    TryFull,
+    /// All redundant edges are removed.
+    ReduceAll,
 }
 
 fn copy<S: Kind>(rt: &impl Abort, alloc: Global, dag: &Plain<S>, rows: &[Row<'_>]) {
@@ -241,6 +248,15 @@ fn keep_or_close<S: Kind>(rt: &impl Abort, dag: &mut Plain<S>, act: Act<'_>) {
         Act::References => same(rt, S::equal_references(dag), (true, false)),
         Act::ClosePath => close_path(rt, dag),
         Act::CloseChain => close_chain(rt, dag),
+        Act::ReduceAll => made(rt, dag.transitive_reduce_all()),
+        _ => attempt(rt, dag, act),
+    }
+}
+
+fn attempt<S: Kind>(rt: &impl Abort, dag: &mut Plain<S>, act: Act<'_>) {
+    match act {
+        Act::TryAll => try_all(rt, dag),
+        Act::TryFull => try_full(rt, dag),
         _ => panic!(rt; "there is no such act"),
     }
 }

@@ -74,6 +74,51 @@ fn a_cycle_in_the_middle_of_a_series_is_found_at_its_end(rt: HostRuntime) {
     both(&rt, rt.alloc(), Scene::Rows(ROWS));
 }
 
+// A path from node 0 to node 4 that the order has first, and then five edges of two nodes each.
+const CONFLICTS: &[Row<'static>] = &[
+    (Call::Nodes(15), Answer::Done),
+    (
+        Call::Edges(&[(0, 1, 0), (1, 2, 0), (2, 3, 0), (3, 4, 0)]),
+        Answer::Edges(&[0, 1, 2, 3]),
+    ),
+    (
+        Call::Edges(&[(5, 6, 0), (7, 8, 0), (9, 10, 0), (11, 12, 0), (13, 14, 0)]),
+        Answer::Edges(&[4, 5, 6, 7, 8]),
+    ),
+];
+
+// Each item needs a search of the whole path. The order is abandoned at the last one.
+#[test]
+fn a_series_may_need_many_searches(rt: HostRuntime) {
+    const ROWS: &[Row<'static>] = &[
+        (
+            Call::Edges(&[(6, 0, 1), (8, 0, 2), (10, 0, 3), (12, 0, 4), (14, 0, 5)]),
+            Answer::Edges(&[9, 10, 11, 12, 13]),
+        ),
+        (Call::Edge(4, 13, 6), Answer::Cycle(6)),
+        (Call::Edge(4, 5, 7), Answer::Cycle(7)),
+        (Call::Edge(6, 13, 8), Answer::Edge(14)),
+    ];
+    const CYCLE: &[Row<'static>] = &[
+        (
+            Call::Edges(&[
+                (6, 0, 1),
+                (8, 0, 2),
+                (10, 0, 3),
+                (12, 0, 4),
+                (14, 0, 5),
+                (4, 5, 6),
+                (0, 2, 7),
+            ]),
+            Answer::CycleAll(&[7, 6, 5, 4, 3, 2, 1]),
+        ),
+        (Call::Counts, Answer::Counts(15, 9)),
+        (Call::Edge(4, 5, 8), Answer::Edge(9)),
+    ];
+    both(&rt, rt.alloc(), Scene::Twice(CONFLICTS, ROWS));
+    both(&rt, rt.alloc(), Scene::Twice(CONFLICTS, CYCLE));
+}
+
 /// A series ends at the first item at fault, and its iterator still holds what comes after.
 pub fn end_at_a_fault<Ix: IndexType, S: Store<Ix, NodeWeight = u32, EdgeWeight = u32>>(
     rt: &impl Abort,

@@ -169,6 +169,38 @@ fn parents_are_put_before_the_node_in_the_order(rt: HostRuntime) {
     both(&rt, rt.alloc(), Scene::Rows(ROWS));
 }
 
+// Node 0 reaches 1 and 2. Nodes 4 and 6 have a parent each, so a search is needed for them.
+#[test]
+fn parents_that_stand_behind_are_moved_at_once(rt: HostRuntime) {
+    const MADE: &[Row<'static>] = &[
+        (Call::Nodes(7), Answer::Done),
+        (
+            Call::Edges(&[(0, 1, 0), (1, 2, 0), (3, 4, 0), (5, 6, 0)]),
+            Answer::Edges(&[0, 1, 2, 3]),
+        ),
+    ];
+    const ROWS: &[Row<'static>] = &[
+        (Call::SetParents(0, &[(4, 7), (6, 8), (4, 9)]), Answer::Done),
+        (Call::Order, Answer::Nodes(&[3, 4, 5, 6, 0, 1, 2])),
+        (Call::Edge(2, 5, 1), Answer::Cycle(1)),
+    ];
+    // A parent that the node reaches stands before the last one.
+    const CYCLE: &[Row<'static>] = &[
+        (
+            Call::SetParents(0, &[(4, 7), (2, 8), (6, 9)]),
+            Answer::Cycle(3),
+        ),
+        (
+            Call::SetParents(0, &[(4, 7), (0, 8), (6, 9)]),
+            Answer::Cycle(3),
+        ),
+        (Call::Counts, Answer::Counts(7, 4)),
+        (Call::SetParents(0, &[(6, 9)]), Answer::Done),
+    ];
+    both(&rt, rt.alloc(), Scene::Twice(MADE, ROWS));
+    both(&rt, rt.alloc(), Scene::Twice(MADE, CYCLE));
+}
+
 #[test]
 fn parents_need_indices_beside_the_old_edges(rt: HostRuntime) {
     const ROWS: &[Row<'static>] = &[

@@ -1,4 +1,5 @@
 //! Which edges are left when a dag is reduced. The weight of an edge is the index that it had.
+use super::acts::{Act, both as acts_of_both};
 use super::support::made;
 use super::table::{
     Answer, Call, Row, Scene, both, compact, edge_added, fill_nodes, is, play_row, stable,
@@ -66,6 +67,27 @@ fn in_a_stable_dag_what_stays_keeps_its_index(rt: HostRuntime) {
         (Call::Edge(0, 1, 9), Answer::Edge(8)),
     ];
     stable(&rt, rt.alloc(), Scene::Rows(ROWS));
+}
+
+#[test]
+fn all_redundant_edges_go(rt: HostRuntime) {
+    // No node reaches all others.
+    const ROWS: &[Row<'static>] = &[
+        (Call::Nodes(5), Answer::Done),
+        (
+            Call::Edges(&[(4, 2, 0), (2, 1, 1), (4, 1, 2), (3, 1, 3), (3, 2, 4)]),
+            Answer::Edges(&[0, 1, 2, 3, 4]),
+        ),
+    ];
+    const ACTS: &[Act<'static>] = &[
+        Act::ReduceAll,
+        Act::Rows(&[
+            (Call::Counts, Answer::Counts(5, 3)),
+            (Call::Find(4, 1), Answer::Nothing),
+            (Call::Find(3, 1), Answer::Nothing),
+        ]),
+    ];
+    acts_of_both(&rt, rt.alloc(), ROWS, ACTS);
 }
 
 #[test]

@@ -40,6 +40,25 @@ fn edge_count(dag: &Numbers) -> usize {
     dag.dag().edge_count()
 }
 
+// Asks by key.
+fn ask_again(rt: &impl Abort, dag: &Numbers) {
+    let found = match dag.descendants_of(&2) {
+        Ok(found) => found,
+        Err(AllocError) => made(rt, dag.descendants_of(&2)),
+    };
+    same(rt, found.is_some_and(|keys| keys.len() == 6), true);
+    let found = match dag.path(&3, &5) {
+        Ok(found) => found,
+        Err(AllocError) => made(rt, dag.path(&3, &5)),
+    };
+    same(rt, found.is_some_and(|keys| keys.len() == 3), true);
+    let found = match dag.reaches(&1, &8) {
+        Ok(found) => found,
+        Err(AllocError) => made(rt, dag.reaches(&1, &8)),
+    };
+    same(rt, found, true);
+}
+
 fn call_again(rt: &impl Abort, dag: &mut Numbers) {
     for key in 0..9 {
         add_again(rt, dag, key);
@@ -56,6 +75,7 @@ fn call_again(rt: &impl Abort, dag: &mut Numbers) {
         (Some(a), Some(b)) => goes(rt, path, &[a, b]),
         _ => panic!(rt; "both keys are known"),
     }
+    ask_again(rt, dag);
     // A removal allocates nothing, nor does the next addition.
     same(rt, remove(dag, &8), Some((8, 8)));
     same(rt, add(dag, 9, 9).ok(), ends[1]);

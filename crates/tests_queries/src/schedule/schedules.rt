@@ -3,7 +3,7 @@ ghost use Rattle.std.specs.Prelude.{◌≤◌, length};
 ghost use Rattle.daggy_base.specs.Graph.{node_bound};
 
 use super::scenes::{Scene, compact, stable};
-use super::support::{Plain, dag_of, times};
+use super::support::{Plain, dag_of, times, turned_dag_of};
 use crate::support::{holds, lists, made, node, same};
 use daggy_base::source::EdgeSource;
 use daggy_base::store::Store;
@@ -21,6 +21,29 @@ fn plans<S: Store<u32, NodeWeight = u64, EdgeWeight = ()>>(rt: &impl Abort, allo
     times(rt, plan.slack.as_slice(), &[0, 6, 0, 3, 0]);
     same(rt, plan.makespan, 12);
     lists(rt, plan.critical.as_slice(), &[0, 2, 4]);
+}
+
+// Nodes 2 and 3 finish last, and the two parents of node 2 finish at the same time.
+fn plans_the_lowest<S: Store<u32, NodeWeight = u64, EdgeWeight = ()>>(
+    rt: &impl Abort,
+    alloc: Global,
+    dag: &Plain<S>,
+) {
+    let plan = made(rt, Schedule::new(alloc, dag, |_, duration| *duration));
+    times(rt, plan.finishes.as_slice(), &[3, 3, 4, 4]);
+    lists(rt, plan.critical.as_slice(), &[0, 2]);
+}
+
+// The critical path is the same, whatever the order of the dag.
+fn plans_alike<S: Store<u32, NodeWeight = u64, EdgeWeight = ()>>(rt: &impl Abort, alloc: Global) {
+    let durations = [3, 3, 1, 4];
+    let edges = [(1, 2), (0, 2)];
+    plans_the_lowest(rt, alloc, &dag_of::<S>(rt, alloc, &durations, &edges));
+    plans_the_lowest(
+        rt,
+        alloc,
+        &turned_dag_of::<S>(rt, alloc, &durations, &edges),
+    );
 }
 
 // A schedule with the durations of a table.
@@ -77,6 +100,7 @@ fn plans_too_much<S: Store<u32, NodeWeight = u64, EdgeWeight = ()>>(
 
 pub fn plans_all<S: Store<u32, NodeWeight = u64, EdgeWeight = ()>>(rt: &impl Abort, alloc: Global) {
     plans::<S>(rt, alloc);
+    plans_alike::<S>(rt, alloc);
     plans_by_table::<S>(rt, alloc);
     plans_none::<S>(rt, alloc);
     plans_too_much::<S>(rt, alloc);

@@ -2,7 +2,7 @@
 ghost use Rattle.daggy_schedule.specs.Work.{IsUnderWay};
 
 use super::scenes::{Scene, compact, stable};
-use super::support::{Plain, dag_of};
+use super::support::{Plain, dag_of, turned_dag_of};
 use crate::support::{holds, lists, made, node};
 use daggy_base::index::NodeIndex;
 use daggy_base::store::Store;
@@ -76,11 +76,17 @@ pub fn works_off<S: Store<u32, NodeWeight = u64, EdgeWeight = ()>>(rt: &impl Abo
         made(rt, work_off(alloc, &dag)).as_slice(),
         &[0, 2, 1, 4, 3],
     );
-    // Three at a time, and the order of the dag where none waits.
+    // Three at a time, and by ascending index where none waits, whatever the order of the dag.
     let wide = dag_of::<S>(rt, alloc, &[0; 6], &[(0, 5), (1, 5), (2, 4)]);
     lists(
         rt,
         made(rt, work_off(alloc, &wide)).as_slice(),
+        &[0, 1, 2, 3, 5, 4],
+    );
+    let turned = turned_dag_of::<S>(rt, alloc, &[0; 6], &[(0, 5), (1, 5), (2, 4)]);
+    lists(
+        rt,
+        made(rt, work_off(alloc, &turned)).as_slice(),
         &[0, 1, 2, 3, 5, 4],
     );
 }
