@@ -1,6 +1,7 @@
 // Preloaded into a built program, makes its allocation number FAIL_ALLOCATION find no memory. Only the program that
 // FAIL_ALLOCATION_OF names is meant, so that what starts it goes on undisturbed. It finds in ALLOCATIONS_REFUSED whether
-// that has happened, 0 or 1. Where there were so many allocations, the file FAIL_ALLOCATION_MARK is made.
+// that has happened, 0 or 1, and in ALLOCATIONS how many there were, also if FAIL_ALLOCATION is 0. Where there were so many
+// allocations, the file FAIL_ALLOCATION_MARK is made.
 #define _GNU_SOURCE
 #include <errno.h>
 #include <fcntl.h>
@@ -13,16 +14,29 @@ extern void *__libc_realloc(void *, size_t);
 
 static long left; // how many allocations to go before the one that fails; 0: none fails any more
 static char told[] = "ALLOCATIONS_REFUSED=0";
+static char count[] = "ALLOCATIONS=0000000000";
+static int counts; // whether this is the program that is meant
 
 __attribute__((constructor)) static void begin(void) {
   const char *program = getenv("FAIL_ALLOCATION_OF"), *number = getenv("FAIL_ALLOCATION");
   if (!program || !number || strcmp(program, program_invocation_short_name))
     return;
   putenv(told);
+  putenv(count);
+  counts = 1;
   left = atol(number);
 }
 
-static int fails(void) { return left > 0 && --left == 0; }
+static int fails(void) {
+  for (char *digit = count + sizeof count - 2; counts && *digit != '='; digit--) {
+    if (*digit != '9') {
+      ++*digit;
+      break;
+    }
+    *digit = '0';
+  }
+  return left > 0 && --left == 0;
+}
 
 static void *refused(void) {
   const char *mark = getenv("FAIL_ALLOCATION_MARK");

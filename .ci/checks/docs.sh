@@ -1,7 +1,7 @@
 #!/usr/bin/env bash
-# The first example of the README is the text of a test, each block of code in docs/USING.md and in the pages of the
-# examples stands in a file that the gate checks or is an example that examples.sh runs, and each run in the README, in
-# docs/COMMANDS.md and in those pages prints what stands there.
+# The README has the program that `.ci/use` makes, with what it prints; each block of code in docs/USING.md and in the pages
+# of the examples stands in a file that the gate checks or is an example that examples.sh runs; and each run in the README,
+# in docs/COMMANDS.md and in those pages prints what stands there.
 set -u
 cd "$(dirname "$0")/../.." || exit 1
 exec python3 - <<'PYTHON'
@@ -15,7 +15,7 @@ import subprocess
 import sys
 import tempfile
 
-EXAMPLE = "crates/tests_queries/src/first_example.rt"
+EXAMPLE = "crates/example_tasks"
 bad = 0
 
 
@@ -41,10 +41,8 @@ made = importlib.util.module_from_spec(importlib.util.spec_from_loader("examples
 loader.exec_module(made)
 
 readme = text_of("README.md")
-first = blocks(readme, "rust")[0]
-test = text_of(EXAMPLE).partition("\n")[2]
-if first != test:
-    complain(f"the first example of the README is not {EXAMPLE} below its first line")
+if blocks(readme, "rust") != [text_of(f"{EXAMPLE}/src/main.rt")] or blocks(readme, "text") != [text_of(f"{EXAMPLE}/stdout")]:
+    complain(f"the README does not have the program of {EXAMPLE} and what it prints")
 
 
 # Code without doc comments, attributes, blank lines and the indentation that all of it has. A line `// ..` parts a block.
@@ -75,7 +73,7 @@ sources = {path: code_of(text_of(path)) for path in files}
 for path, item, lines in made.examples():
     sources[f"{path}, {item}, {len(sources)}"] = code_of("\n".join(lines))
 page = text_of("docs/USING.md")
-if blocks(page, "text") != [text_of("crates/example_garden/stdout")]:
+if blocks(page, "text") != [text_of(f"{EXAMPLE}/stdout")]:
     complain("docs/USING.md: the program of .ci/use prints something else")
 pages = {"docs/SHEET.md": "example_sheet", "docs/PACKAGES.md": "example_packages", "docs/BUILD.md": "example_build"}
 using = [(path, block) for path in ["docs/USING.md", *pages] for block in blocks(made.RECIPE.sub("", text_of(path)), "rust")]

@@ -1,7 +1,8 @@
 #!/usr/bin/env bash
 # What README and the docs name is there: the file of each link, each path in backticks (also that of an edit, which stands
-# without `.edit`), and each name in backticks that has a `_`, as a crate, an edit, a test or a function has. Of docs/USING.md,
-# which names files of a user's own repository, only the links and the scripts in .ci.
+# without `.edit`), and each name in backticks that has a `_`, as a crate, an edit, a test or a function has. Of pages that
+# name what is in a user's own repository, in the kit or in other libraries, only the links and the scripts in .ci; and of
+# docs/MIGRATING.md each name in the column `Here`. Not of docs/reference, which api.sh looks at.
 set -u
 cd "$(dirname "$0")/../.." || exit 1
 exec python3 - <<'PYTHON'
@@ -23,7 +24,8 @@ def text_of(path):
         return file.read()
 
 
-docs = ["README.md", *sorted(glob.glob("docs/*.md"))]
+OTHERS = {"docs/USING.md", "docs/RATTLE.md", "docs/MIGRATING.md"}
+docs = ["README.md", *sorted(glob.glob("docs/*.md") + glob.glob("docs/internals/*.md"))]
 files = []
 for at, folders, names in os.walk("."):
     folders[:] = sorted(set(folders) - {"out", ".git"})
@@ -46,13 +48,21 @@ for path in docs:
                 print(f"{path}: no file {link}")
     for name in sorted(set(re.findall(r"`([\w./-]+)`", text))):
         is_path = "/" in name or re.search(r"\.(rt|antt|sh|edit|py|c)$", name)
-        if path == "docs/USING.md" and not name.startswith(".ci/") or not is_path and "_" not in name:
+        if path in OTHERS and not name.startswith(".ci/") or not is_path and "_" not in name:
             continue
         looked += 1
         there = name.rstrip("/") in ends if is_path else words.issuperset(re.split(r"\.", name))
         if not there and name not in ELSEWHERE and not FILLED_IN.search(name):
             bad += 1
             print(f"{path}: nothing is named {name}")
+for line in text_of("docs/MIGRATING.md").split("\n"):
+    cells = [it.strip() for it in re.split(r"(?<!\\)\|", line)[1:-1]]
+    if len(cells) == 3 and cells[1] != "---":
+        for name in re.findall(r"\w+", " ".join(re.findall(r"`([^`]*)`", cells[1]))):
+            looked += 1
+            if name not in words:
+                bad += 1
+                print(f"docs/MIGRATING.md: nothing here is named {name}")
 print(f"ok: {looked} names" if not bad else f"{bad} of {looked} names are of nothing")
 sys.exit(bad > 0)
 PYTHON

@@ -39,6 +39,16 @@ expect 2 '' "$usage" 0
 expect 2 '' "$usage" 0 dense
 expect 2 '' "$usage" 0 compact compact
 expect 2 '' "$usage" 0 plan
+# The help is told on standard output, with the usage first and every kind.
+help=$("$program" --help </dev/null 2>"$shim.err")
+ended=$?
+tried=$((tried + 1))
+if [ "$ended" != 0 ] || [ -s "$shim.err" ] || [ "${help%%$'\n'*}" != "$usage" ] || ! grep -q '^  stable ' <<<"$help"; then
+  printf 'with --help: status %s, output %s, error %s\n' "$ended" "$help" "$(cat "$shim.err")"
+  exit 1
+fi
+expect 0 "$help" '' 0 -h
+expect 2 '' "$usage" 0 --help compact
 expect 1 '' 'dagbench: out of memory' 1 compact
 expect 0 "$replies" '' 0 compact
 expect 0 "$replies" '' 0 stable
@@ -52,5 +62,41 @@ for kind in compact stable; do
   fails 'dagbench: read failed' / /dev/null plan "$kind"
   fails 'dagbench: write failed' "$shim.lines" /dev/full "$kind"
   fails 'dagbench: write failed' "$shim.lines" /dev/full plan "$kind"
+done
+
+# A pipe that is closed after the first reply: the write fails, whether or not the program was started with its signal ignored.
+closed() { # SIGNAL-HANDLING KIND
+  tried=$((tried + 1))
+  python3 - "$program" "$@" <<'END' || exit 1
+import signal, subprocess, sys
+program, handling, kind = sys.argv[1:]
+started = subprocess.Popen([program, kind], stdin=subprocess.PIPE, stdout=subprocess.PIPE, stderr=subprocess.PIPE, restore_signals=False,
+                           preexec_fn=lambda: signal.signal(signal.SIGPIPE, getattr(signal, handling)))
+first = b""
+try:
+    while not first:
+        started.stdin.write(b"node 1\n" * 4096)
+        started.stdin.flush()
+        first = started.stdout.readline()
+    started.stdout.close()
+    for _ in range(4096):
+        started.stdin.write(b"node 1\n" * 4096)
+        started.stdin.flush()
+except BrokenPipeError:
+    pass
+try:
+    started.stdin.close()
+except BrokenPipeError:
+    pass
+complained = started.stderr.read().decode().strip()
+ended = started.wait()
+if (first, ended, complained) != (b"n0\n", 1, "dagbench: write failed"):
+    sys.exit(f"closed pipe, {kind}, {handling}: status {ended}, first reply {first}, error {complained}")
+END
+}
+
+for kind in compact stable; do
+  closed SIG_DFL "$kind"
+  closed SIG_IGN "$kind"
 done
 echo "ok: $tried endings"

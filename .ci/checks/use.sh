@@ -22,7 +22,7 @@ cd "$clone" || exit 1
 "$clone/.ci/use" --help | grep -q '^usage: ' || fail '--help prints no usage'
 "$clone/.ci/use" "$room/other" garden >/dev/null || fail 'no program is made'
 ran=$(cd "$room/other/crates/garden" && rt try 2>"$room/said") || fail "rt try: $(cat "$room/said")"
-[ "$ran" = "$(cat crates/example_garden/stdout)" ] || fail "the program prints $ran"
+[ "$ran" = "$(cat crates/example_tasks/stdout)" ] || fail "the program prints $ran"
 
 lines=$(sort "$room/other/crates.txt")
 echo '// Changed.' >>"$room/other/crates/garden/src/main.rt"
@@ -98,7 +98,7 @@ chmod +x "$room/bin/rt"
 PATH=$room/bin:$PATH refused 'and rt version says another kit' --proved proofs new app
 
 # A change of another crate means nothing to the proofs. A change of a library does, to its own and those above.
-echo '// Changed.' >>"$clone/crates/example_garden/src/main.rt"
+echo '// Changed.' >>"$clone/crates/example_tasks/src/main.rt"
 taken "$all" third
 taken "$all" --proved proofs fourth
 echo '# Changed.' >>"$clone/crates.txt"
