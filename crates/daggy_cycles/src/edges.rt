@@ -10,7 +10,7 @@ use daggy_components::find_cycle;
 use daggy_search::Reading;
 use std::alloc::{AllocError, Global};
 
-// The place after `k` of so many, round.
+// The place after `k` in a ring of `len` places.
 fn next_place(k: usize, len: usize) -> usize
     requires { k < len }
     ensures within { result < len }

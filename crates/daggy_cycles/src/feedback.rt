@@ -20,7 +20,7 @@ use daggy_dag::acyclic::Dag;
 use daggy_search::Reading;
 use std::alloc::{AllocError, Global};
 
-// Slots of so many nodes.
+// `count` slots, each with a node.
 fn node_slots(alloc: Global, count: usize) -> Result<Vec<Option<()>>, AllocError>
     ensures { IfOk result (λ slots. slots.items ≡ replicate count (Some tt)) }
 {
@@ -29,7 +29,7 @@ fn node_slots(alloc: Global, count: usize) -> Result<Vec<Option<()>>, AllocError
     Ok(slots)
 }
 
-// Marks of so many edges, none of which was tried.
+// A mark for each of `count` edges, none of which was tried.
 fn no_marks(alloc: Global, count: usize) -> Result<Vec<bool>, AllocError>
     ensures { IfOk result (λ marks. marks.items ≡ replicate count false) }
 {
@@ -38,7 +38,7 @@ fn no_marks(alloc: Global, count: usize) -> Result<Vec<bool>, AllocError>
     Ok(marks)
 }
 
-// A dag of so many nodes, without edges.
+// A dag of `count` nodes without edges.
 fn edgeless<Ix: IndexType>(alloc: Global, count: usize) -> Result<Dag<(), (), Ix>, AllocError>
     requires { count ≤ Ix.greatest }
     ensures nodes { IfOk result (λ dag. (n : ℕ) → n < count → HasNode dag.graph n) }

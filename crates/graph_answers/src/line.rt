@@ -8,7 +8,7 @@ use std::str::SplitWhitespace;
 /// What a line says.
 #[derive(Drop)]
 pub enum Line {
-    /// A graph of so many nodes begins.
+    /// A graph of this many nodes begins.
     Graph(usize),
     /// An edge from a parent to a child.
     Edge(NodeIndex<u32>, NodeIndex<u32>),
