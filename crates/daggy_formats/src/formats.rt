@@ -222,8 +222,8 @@ impl Format for EdgeTable {
     }
 }
 
-/// GraphML, which networkx, Gephi and yEd read. A node's identifier is `n` and its index, and the
-/// weights are texts. Control characters that XML does not allow are written as they are.
+/// GraphML, which networkx reads. A node's identifier is `n` and its index, and the weights are
+/// texts. Control characters that XML does not allow are written as they are.
 #[derive(Clone, Copy, Debug)]
 pub struct GraphMl;
 

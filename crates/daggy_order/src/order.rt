@@ -24,10 +24,10 @@ pub use nodes::Nodes;
 pub use path::path_in;
 pub use reaching::reaches_in;
 
-/// An ordered list of distinct nodes that can be added at both ends, removed and moved. A dag keeps
-/// one of its own nodes; for searches of another graph [`sorted`](Order::sorted) makes one. Labels
-/// that ascend along the list show which of two nodes comes first, as in the order-maintenance list
-/// of Dietz and Sleator (1987).
+/// An ordered list of distinct nodes that can be added at both ends, removed and moved. A dag
+/// maintains the order of its nodes; [`sorted`](Order::sorted) makes an order of any acyclic graph.
+/// Labels that ascend along the list show which of two nodes comes first, as in the
+/// order-maintenance list of Dietz and Sleator (1987).
 ///
 /// A trailing run of consecutive indices is stored as a range. The first change of any other kind
 /// links the nodes of the run, in memory reserved when they were pushed. Each node is linked at

@@ -20,9 +20,9 @@ mod descendants;
 
 /// Answers questions about the paths of an acyclic graph that it borrows.
 ///
-/// It searches in memory of its own, so the graph can be read at the same time, as in a loop over
-/// the neighbors of a node, and several can borrow one graph. Making one takes O(nodes), so make one
-/// for many questions.
+/// It has its own memory for searches. So the graph can be read at the same time, as in a loop over
+/// the neighbors of a node, and several values can borrow one graph. Making one takes O(nodes), so
+/// make one for many questions.
 #[derive(Drop)]
 pub struct Paths<'d, Ix: IndexType, S: ReadStore<Ix>> {
     forward: Reading<'d, Ix, S>,

@@ -78,8 +78,8 @@ pub trait Walker<G>: Drop {
     ///
     /// # Complexity
     ///
-    /// O(1) for `Children` and `Parents`. An adapter takes steps of the walkers that it wraps; one
-    /// that skips items may take several of them for one step of its own.
+    /// O(1) for `Children` and `Parents`. An adapter takes a step of the walker that it wraps, or
+    /// several if it skips items.
     fn walk_next(&mut self, graph: &G) -> Option<Self::Item>
         requires { can_walk self.old graph.now }
         ensures steps { walk_gives self.old graph.now result self.new }

@@ -1,7 +1,7 @@
 //! Answers questions about graphs, so that another program's answers can be compared with them:
 //! `graph_answers compact` and `graph_answers stable` read lines and print one line for each answer.
 //!
-//! `graph COUNT` begins a graph with so many nodes. `edge PARENT CHILD` adds an edge, and `without
+//! `graph COUNT` begins a graph with that many nodes. `edge PARENT CHILD` adds an edge, and `without
 //! NODE` removes a node. `prefer EDGE` names the next one of the edges that are to be kept. `answer`
 //! asks for the components, the condensation, cycles, and which edges to leave out.
 #![tactic(auto)]

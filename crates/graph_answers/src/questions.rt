@@ -23,7 +23,7 @@ pub struct Asked<S: Drop> {
     pub preferred: Vec<EdgeIndex<u32>>,
 }
 
-/// A graph of so many nodes, without edges.
+/// A graph of this many nodes, without edges.
 pub fn edgeless<S: Store<u32, NodeWeight = (), EdgeWeight = ()>>(
     alloc: Global,
     count: usize,

@@ -18,8 +18,8 @@ impl<N: Drop, E: Drop, Ix: IndexType, S> Acyclic<N, E, Ix, S>
 where
     S: ReadStore<Ix, NodeWeight = N, EdgeWeight = E>,
 {
-    /// Returns `nodes` and their descendants, each once and parents before children: what to
-    /// recompute after `nodes` changed, in the order to do it. Missing nodes are ignored.
+    /// Returns `nodes` and their descendants, each once and parents before children. After `nodes`
+    /// changed, these are to be recomputed in this order. Nodes that do not exist are ignored.
     ///
     /// # Errors
     ///

@@ -15,8 +15,8 @@ impl<N: Drop, E: Drop, Ix: IndexType, S> Acyclic<N, E, Ix, S>
 where
     S: ReadStore<Ix, NodeWeight = N, EdgeWeight = E>,
 {
-    /// Borrows the dag for questions about its paths, with search memory of its own. So the dag can
-    /// be read between two questions, as in a loop over the neighbors of a node.
+    /// Borrows the dag for questions about its paths, and allocates memory for the searches. The dag
+    /// can be read between two questions, as in a loop over the neighbors of a node.
     ///
     /// [`Paths`] has all questions that take `&mut self` here: [`reaches`](Acyclic::reaches),
     /// [`path`](Acyclic::path), [`descendants`](Acyclic::descendants) and so on.

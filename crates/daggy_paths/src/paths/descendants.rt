@@ -16,8 +16,8 @@ use daggy_visit::visit::AdjMatrix;
 use std::alloc::AllocError;
 
 impl<'d, Ix: IndexType, S: ReadStore<Ix>> Paths<'d, Ix, S> {
-    /// Returns `nodes` and their descendants, each once and parents before children: what to
-    /// recompute after `nodes` changed, in the order to do it. Missing nodes are ignored.
+    /// Returns `nodes` and their descendants, each once and parents before children. After `nodes`
+    /// changed, these are to be recomputed in this order. Nodes that do not exist are ignored.
     ///
     /// # Errors
     ///

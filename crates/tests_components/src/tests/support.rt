@@ -79,7 +79,7 @@ where
     panic!(rt; "an edge was refused twice");
 }
 
-/// A graph of so many nodes, with these edges. What is refused is done once more.
+/// A graph of this many nodes, with these edges. A call whose allocation failed is made again.
 pub fn graph_of<S: Store<u8, NodeWeight = (), EdgeWeight = ()>>(
     rt: &impl Abort,
     alloc: Global,
