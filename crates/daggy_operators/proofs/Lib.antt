@@ -1,0 +1,4 @@
+pub mod PartPaths
+pub mod Marks
+pub mod PartSlots
+pub mod Wholes

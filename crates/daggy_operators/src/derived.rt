@@ -1,0 +1,100 @@
+//! A part of a dag, and a dag with its edges reversed.
+ghost use Rattle.std.specs.Prelude.{◌≡◌, ℕ, List, ◌↔◌, IfOk, Contains, map};
+ghost use Rattle.std.specs.List.{All};
+ghost use Rattle.daggy_base.specs.Path.{IsAcyclic, IsPath, Reaches};
+ghost use Rattle.daggy_operators.specs.Operators.{IsSubgraph, IsReverse};
+
+use crate::parts::{all_marks, marks_of, part};
+use daggy_base::index::{Direction, IndexType, NodeIndex};
+use daggy_base::read_store::ReadStore;
+use daggy_dag::acyclic::{Acyclic, StableDag};
+use std::alloc::{AllocError, Global};
+
+/// The part of a dag that has the given nodes and the edges between them, at the same indices. The
+/// nodes' weights are borrowed; for the weight of an edge, ask the dag.
+///
+/// What takes a dag takes the part, so a plan, a schedule, a ready queue, a picture or a reduction
+/// can be of a part alone: of what some targets need, say, which are they and their ancestors.
+/// Indices that are not nodes of the dag are ignored, and so is how often one is given. Each list is
+/// in descending index order.
+///
+/// # Errors
+///
+/// Returns `AllocError` if an allocation fails.
+///
+/// # Complexity
+///
+/// O(slots of the dag + given nodes).
+///
+/// # Examples
+///
+/// ```
+/// let mut dag: Dag<&'static str, u32> = Dag::new(rt.alloc());
+/// let sow = dag.add_node("sow")?;
+/// let (_, water) = dag.add_child(sow, 60, "water")?;
+/// let (days, reap) = dag.add_child(sow, 90, "reap")?;
+/// let part = subgraph(rt.alloc(), &dag, &[sow, reap])?;
+/// assert!(rt; part.node_weight(reap) == Some(&&"reap"));
+/// assert!(rt; part.find_edge(sow, reap) == Some(days));
+/// assert!(rt; !part.contains_node(water));
+/// assert!(rt; part.edge_count() == 1);
+/// ```
+pub fn subgraph<'d, N: Drop, E: Drop, Ix: IndexType, S>(
+    alloc: Global,
+    dag: &'d Acyclic<N, E, Ix, S>,
+    nodes: &[NodeIndex<Ix>],
+) -> Result<StableDag<&'d N, (), Ix>, AllocError>
+where
+    S: ReadStore<Ix, NodeWeight = N, EdgeWeight = E>,
+    ensures part { IfOk result (λ d.
+        IsSubgraph (Contains (map Ix.number nodes.now)) dag.now.graph d.graph) }
+    ensures paths { IfOk result (λ d. (path : List ℕ) → IsPath d.graph path
+        ↔ (IsPath dag.now.graph path × All (Contains (map Ix.number nodes.now)) path)) }
+    ensures acyclic { IfOk result (λ d. IsAcyclic d.graph) }
+{
+    // Called for its contract, here and below: the dag is well formed.
+    let _count = dag.node_count();
+    let store = dag.graph();
+    let marks = marks_of(alloc, store.node_slots(), nodes)?;
+    part(alloc, dag, &marks, Direction::Outgoing)
+}
+
+/// The dag with each edge reversed, at the same indices. The nodes' weights are borrowed; for the
+/// weight of an edge, ask the dag. Each list is in descending index order.
+///
+/// A node reaches another in it if and only if that one reaches it in the dag.
+///
+/// # Errors
+///
+/// Returns `AllocError` if an allocation fails.
+///
+/// # Complexity
+///
+/// O(slots).
+///
+/// # Examples
+///
+/// ```
+/// let mut dag: StableDag<&'static str, u32> = StableDag::new(rt.alloc());
+/// let sow = dag.add_node("sow")?;
+/// let (days, reap) = dag.add_child(sow, 90, "reap")?;
+/// let back = reverse(rt.alloc(), &dag)?;
+/// assert!(rt; back.find_edge(reap, sow) == Some(days));
+/// assert!(rt; back.node_weight(sow) == Some(&&"sow"));
+/// ```
+pub fn reverse<'d, N: Drop, E: Drop, Ix: IndexType, S>(
+    alloc: Global,
+    dag: &'d Acyclic<N, E, Ix, S>,
+) -> Result<StableDag<&'d N, (), Ix>, AllocError>
+where
+    S: ReadStore<Ix, NodeWeight = N, EdgeWeight = E>,
+    ensures reversed { IfOk result (λ d. IsReverse dag.now.graph d.graph) }
+    ensures reachability { IfOk result (λ d. (u v : ℕ)
+        → Reaches d.graph u v ↔ Reaches dag.now.graph v u) }
+    ensures acyclic { IfOk result (λ d. IsAcyclic d.graph) }
+{
+    let _count = dag.node_count();
+    let store = dag.graph();
+    let marks = all_marks(alloc, store.node_slots())?;
+    part(alloc, dag, &marks, Direction::Incoming)
+}
