@@ -1,0 +1,3 @@
+pub mod Between
+pub mod Folding
+pub mod Replacing

@@ -1,0 +1,4 @@
+pub mod Joined
+pub mod KeptEdges
+pub mod FoldedEdges
+pub mod FoldingAll
