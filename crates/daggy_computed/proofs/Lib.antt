@@ -4,6 +4,7 @@ pub mod ValuesKept
 pub mod Turns
 pub mod Celled
 pub mod Walked
+pub mod Entering
 pub mod Listed
 pub mod Joined
 pub mod CellGraphs
@@ -11,6 +12,7 @@ pub mod CellChanges
 pub mod ChangedParents
 pub mod Turned
 pub mod UnderWay
+pub mod Along
 pub mod WholeRefresh
 pub mod Changes
 pub mod FewerEdges

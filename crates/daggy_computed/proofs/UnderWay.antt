@@ -10,7 +10,7 @@ use Rattle.daggy_base.proofs.Lists.{Mem, mem_cases, contains_mem, mem_contains}
 use Rattle.daggy_base.proofs.Sorted.{place_same, place_other, place_at, same_place}
 use Rattle.daggy_computed.specs.declared.entry.Entry.{Entry}
 use Rattle.daggy_computed.specs.Cells.{cells, entry_at, IsStaleAt}
-use Rattle.daggy_computed.specs.Refreshing.{IsAscending}
+use Rattle.daggy_computed.specs.Refreshing.{IsAscending, IsUnderWay}
 use Rattle.daggy_computed.specs.Settling.{IsTurn, Refreshes}
 use Rattle.daggy_computed.proofs.Turns.{one_more}
 
@@ -78,19 +78,12 @@ ascending_more order (t ∷ ns) n a after = (
 )
 
 module _ {K V E : Type 0} (eq : V → V → Bool) (gives : K → List V → V → Type 0) (order : List ℕ) (g : Graph K E) where
-  -- some nodes had their turns, and stand before all that are stale
-  pub record IsUnderWay (es now : List (Entry V)) (changed : List ℕ) : Type 0 where
-    pub turns : List ℕ
-    pub ascending : IsAscending order turns
-    pub refreshes : Refreshes eq gives turns (cells g es) (cells g now) changed
-    pub later : (t m : ℕ) → Mem t turns → IsStaleAt now m → place order t < place order m
-
-  pub begins : (es : List (Entry V)) (changed : List ℕ) → changed ≡ [] → IsUnderWay es es changed
+  pub begins : (es : List (Entry V)) (changed : List ℕ) → changed ≡ [] → IsUnderWay eq gives order g es es changed
   begins es changed none =
-      record { turns = []; ascending = tt; refreshes = (refl, none); later = λ t m k s. absurd k }
+      record { turns = []; ascending = tt; refreshes = (refl, none); later = λ t m k s. absurd (contains_mem [] t k) }
 
   module _ (ordered : IsOrderOf g order) (es now next : List (Entry V)) (changed : List ℕ) (n : ℕ) (b : Bool)
-      (u : IsUnderWay es now changed) (turn : IsTurn eq gives n (cells g now) (cells g next) b)
+      (u : IsUnderWay eq gives order g es now changed) (turn : IsTurn eq gives n (cells g now) (cells g next) b)
       (stale : IsStaleAt now n) (real : (m : ℕ) → IsStaleAt now m → HasNode g m)
       (first : (m : ℕ) → IsStaleAt now m → place order n ≤ place order m)
       (after : (m : ℕ) → IsStaleAt next m → AreJoined g n m ⊎ ((m ≢ n) × IsStaleAt now m)) where
@@ -108,15 +101,15 @@ module _ {K V E : Type 0} (eq : V → V → Bool) (gives : K → List V → V �
               )
         ]
 
-    pub goes_on : (more : List ℕ) → more ≡ changed ++ (if b then n ∷ [] else []) → IsUnderWay es next more
+    pub goes_on : (more : List ℕ) → more ≡ changed ++ (if b then n ∷ [] else []) → IsUnderWay eq gives order g es next more
     goes_on more is =
         record {
           turns = u.turns ++ n ∷ [];
-          ascending = ascending_more order u.turns n u.ascending (λ t k. u.later t n k stale);
+          ascending = ascending_more order u.turns n u.ascending (λ t k. u.later t n (mem_contains u.turns t k) stale);
           refreshes = subst (Refreshes eq gives (u.turns ++ n ∷ []) (cells g es) (cells g next)) (sym is)
               (one_more eq gives u.turns n (cells g es) (cells g now) (cells g next) changed b u.refreshes turn);
-          later = λ t m k s. elim (mem_cases u.turns (n ∷ []) t k) [
-            | inl k ↦ omega (arith, u.later t n k stale, past m s)
+          later = λ t m k s. elim (mem_cases u.turns (n ∷ []) t (contains_mem (u.turns ++ n ∷ []) t k)) [
+            | inl k ↦ omega (arith, u.later t n (mem_contains u.turns t k) stale, past m s)
             | inr k ↦ elim k [
               | inl e ↦ omega (arith, ap (place order) e, past m s)
               | inr k ↦ absurd k

@@ -21,7 +21,7 @@ module _ {N E I : Type 0} (number : I → ℕ) (dir : Direction) {end : ℕ} {g 
       (subst (λ z. IsWalkStep dir end g cursor (option_map (pair_of number) z) next) is s)).0
 
   module _ (item : I × I) (s : IsWalkStep dir end g cursor (Some (pair_of number item)) next) where
-    ahead : rest_of_walk dir g cursor ≡ number item.0 ∷ rest_of_walk dir g next
+    pub ahead : rest_of_walk dir g cursor ≡ number item.0 ∷ rest_of_walk dir g next
     ahead = step_gives end g w dir cursor (Some (pair_of number item)) next s
 
     pub shorter : length (rest_of_walk dir g next) < length (rest_of_walk dir g cursor)
@@ -34,7 +34,7 @@ module _ {N E I : Type 0} (number : I → ℕ) (dir : Direction) {end : ℕ} {g 
         let pair = same_Some (pair_of number item) (cursor, far_end dir x) is in
         (x, ap (λ z. edge_at g z.0) pair ∙ h, sym (ap (λ z. z.1) pair))
 
-    edge : (x : Edge E) × (edge_at g (number item.0) ≡ Some x) × (far_end dir x ≡ number item.1)
+    pub edge : (x : Edge E) × (edge_at g (number item.0) ≡ Some x) × (far_end dir x ≡ number item.1)
     edge = edge_there (edge_at g cursor) refl s.item_is
 
     pub far_ahead : far_nodes dir g (rest_of_walk dir g cursor) ≡ number item.1 ∷ far_nodes dir g (rest_of_walk dir g next)

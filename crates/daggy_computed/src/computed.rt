@@ -29,9 +29,11 @@ use crate::entry::{Entry, mark, value_at};
 use crate::error::RefreshError;
 use crate::inputs::Inputs;
 use crate::needed::{needed_nodes, none_stale_among, refresh_listed};
+use crate::parents::entering_edges;
 use crate::queue::Queue;
-use crate::refreshing::{mark_children, refresh_nodes};
+use crate::refreshing::refresh_nodes;
 use crate::slots::{none_stale, put_stale, reserve_slots, take_out};
+use crate::turn::mark_children;
 use daggy_base::error::{NodeError, ParentsError};
 use daggy_base::index::{DefaultIx, IndexType, NodeIndex};
 use daggy_base::read_store::ReadStore;
@@ -434,6 +436,29 @@ where
     ensures gives { node_weight_at dag.old.graph (Ix.number n) ≡ Some result }
 {
     std::mem::replace(&mut dag[n], weight)
+}
+
+impl<K: Drop, V: Drop, E: Copy, Ix: IndexType, S> Computed<K, V, E, Ix, S>
+where
+    S: Store<Ix, NodeWeight = K, EdgeWeight = E>,
+{
+    /// Returns the parents of a node in the order in which the edges were added, each with the weight
+    /// of its edge. [`set_parents`](Computed::set_parents) takes such items, so a replaced formula can
+    /// be put back with its parents.
+    ///
+    /// # Errors
+    ///
+    /// Returns `AllocError` if the memory for the list cannot be allocated.
+    ///
+    /// # Complexity
+    ///
+    /// O(edges that enter the node).
+    pub fn parents(&self, n: NodeIndex<Ix>) -> Result<Vec<(NodeIndex<Ix>, E)>, AllocError>
+        ensures { IfOk result (λ items. map (λ x. (Ix.number x.0, x.1)) items.items
+            ≡ reverse (entering self.now.graph (Ix.number n))) }
+    {
+        entering_edges(self.dag.allocator(), self.dag.graph(), n)
+    }
 }
 
 impl<K: Drop, V: PartialEq + Drop, E: Drop, Ix: IndexType, S> Computed<K, V, E, Ix, S>

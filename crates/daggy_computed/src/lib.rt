@@ -8,6 +8,8 @@ pub mod error;
 pub mod inputs;
 pub mod laws;
 mod needed;
+mod parents;
 mod queue;
 mod refreshing;
 mod slots;
+mod turn;

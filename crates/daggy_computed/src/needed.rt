@@ -13,7 +13,7 @@ use crate::entry::{Entry, is_stale, settle};
 use crate::error::RefreshError;
 use crate::inputs::Inputs;
 use crate::queue::Queue;
-use crate::refreshing::{evaluate, mark_children};
+use crate::turn::{evaluate, mark_children};
 use daggy_base::index::{IndexType, NodeIndex};
 use daggy_base::read_store::ReadStore;
 use daggy_dag::acyclic::Acyclic;
@@ -58,7 +58,14 @@ pub(crate) fn none_stale_among<V, Ix: IndexType>(
 
 // Computes the value of a stale node. If the value is new, the children of the node are stale then.
 // Returns whether it is.
-fn refresh_one<K, V: PartialEq + Drop, X, Ix: IndexType, S: ReadStore<Ix, NodeWeight = K>, F>(
+pub(crate) fn refresh_one<
+    K,
+    V: PartialEq + Drop,
+    X,
+    Ix: IndexType,
+    S: ReadStore<Ix, NodeWeight = K>,
+    F,
+>(
     store: &S,
     n: NodeIndex<Ix>,
     entries: &mut Vec<Entry<V>>,

@@ -100,3 +100,16 @@ nodes-preserved g c =
           ])
           (map number c.reserve.new.self.items) (not_noted number c.nodes.changed.items c.reserve.new.self.items _ c.reserve.ensures.items n c.if-branch.false);
     }
+
+pub returns-then-len-many-clause-turns : goal.returns-then-len-many-clause-turns
+returns-then-len-many-clause-turns g c =
+    let number = g.Ix.IndexType.number in
+    let u = c.refresh_along.ensures.under_way c.args.entries.now.items
+    (begins g.V.PartialEq.eq (Gives (goal.F-post g) c.args.f.now) c.args.order.now (g.S.EdgeSource.graph c.args.store.now)
+    c.args.entries.now.items (map number c.clear.new.self.items) (ap (map number) c.clear.ensures.items)) in
+    (u.turns, u.ascending, u.refreshes)
+
+pub returns-then-len-many-2-clause-turns : goal.returns-then-len-many-2-clause-turns
+returns-then-len-many-2-clause-turns g c =
+    let u = c.refresh_along-then-len-many-2.ensures.under_way c.args.entries.now.items c.nodes.invariant.so_far in
+    (u.turns, u.ascending, u.refreshes)

@@ -1,8 +1,8 @@
 use Rattle.std.proofs.Common.{◌≡◌, ◌-◌, map, length}
 use Rattle.daggy_computed.specs.Heaps.{IsHeap, place_by}
-use Rattle.daggy_computed.specs.Refreshing.{IsReady}
+use Rattle.daggy_computed.specs.Refreshing.{IsReady, IsUnderWay}
 use Rattle.daggy_computed.specs.Settling.{Gives}
-use Rattle.daggy_computed.proofs.UnderWay.{IsUnderWay, behind}
+use Rattle.daggy_computed.proofs.UnderWay.{behind}
 use Rattle.daggy_computed.proofs.refreshing.refresh_nodes.Given as goal
 
 abbrev pub invariant-nodes : goal.invariant-nodes

@@ -13,7 +13,7 @@ use Rattle.daggy_computed.specs.Marking.{far_nodes}
 use Rattle.daggy_dag.proofs.WalkSteps.{whole_walk}
 use Rattle.daggy_computed.proofs.Walked.{over, shorter, far_ahead, far_exists}
 use Rattle.daggy_computed.proofs.Listed.{values_append, have_append, some_copied, none_copied, values_reversed, have_reversed}
-use Rattle.daggy_computed.proofs.refreshing.note_parents.Goals as goal
+use Rattle.daggy_computed.proofs.turn.note_parents.Goals as goal
 
 -- one parent more
 module _ {K V E : Type 0} (graph : Graph K E) (es : List (Entry V)) (ps : List ℕ) (i p : ℕ) (left rest : List ℕ) (all : List V)

@@ -4,7 +4,7 @@ use Rattle.daggy_computed.specs.Cells.{cells, values_of, entry_at, cell_of}
 use Rattle.daggy_computed.specs.Inputs.{inputs}
 use Rattle.daggy_computed.proofs.Celled.{cell_at}
 use Rattle.daggy_computed.proofs.Listed.{on_ok}
-use Rattle.daggy_computed.proofs.refreshing.evaluate.Goals as goal
+use Rattle.daggy_computed.proofs.turn.evaluate.Goals as goal
 
 pub returns-in-Ok-clause-value : goal.returns-in-Ok-clause-value
 returns-in-Ok-clause-value g c =

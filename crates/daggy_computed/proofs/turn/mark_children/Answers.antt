@@ -8,7 +8,7 @@ use Rattle.daggy_computed.specs.Marking.{all_marked, far_nodes, children_of}
 use Rattle.daggy_computed.proofs.Celled.{cells_marked, stale_marked_at, weight_of}
 use Rattle.daggy_dag.proofs.WalkSteps.{whole_walk}
 use Rattle.daggy_computed.proofs.Walked.{over, shorter, far_ahead, far_exists}
-use Rattle.daggy_computed.proofs.refreshing.mark_children.Goals as goal
+use Rattle.daggy_computed.proofs.turn.mark_children.Goals as goal
 
 -- a queue after a node was put there
 put_after : {I : Type 0} (number : I → ℕ) (old new : List I) (n : I)

@@ -4,7 +4,7 @@ use Rattle.daggy_base.proofs.Lists.{Mem}
 use Rattle.daggy_dag.specs.Walks.{rest_of_walk}
 use Rattle.daggy_computed.specs.Cells.{cells, IsStaleAt}
 use Rattle.daggy_computed.specs.Marking.{far_nodes, all_marked, children_of}
-use Rattle.daggy_computed.proofs.refreshing.mark_children.Given as goal
+use Rattle.daggy_computed.proofs.turn.mark_children.Given as goal
 
 abbrev pub invariant-children : goal.invariant-children
 invariant-children g l =

@@ -5,7 +5,7 @@ use Rattle.daggy_dag.specs.Walks.{rest_of_walk}
 use Rattle.daggy_computed.specs.Cells.{cells, values_of, HaveValues}
 use Rattle.daggy_computed.specs.Inputs.{values_at}
 use Rattle.daggy_computed.specs.Marking.{far_nodes}
-use Rattle.daggy_computed.proofs.refreshing.note_parents.Given as goal
+use Rattle.daggy_computed.proofs.turn.note_parents.Given as goal
 
 abbrev pub invariant-parents : goal.invariant-parents
 invariant-parents g l =
