@@ -1,1 +1,4 @@
+pub mod Gathered
+pub mod Marking
+pub mod Quoting
 pub mod Ranks

@@ -9,7 +9,34 @@ use std::fmt::{self, Display, Formatter, Write};
 /// The labels of nodes or of edges, by index and weight.
 ///
 /// To write labels of your own, implement it with [`write_label`], which takes any `Display` value,
-/// such as a text or `format_args!`. It may write other attributes too, such as `shape = box`.
+/// such as a text or `format_args!`, and write other attributes with
+/// [`write_attribute`](crate::write_attribute).
+///
+/// # Examples
+///
+/// ```
+/// #[derive(Drop)]
+/// struct Days;
+///
+/// impl Label<NodeIndex, u32> for Days {
+///     fn write<W: fmt::Write>(
+///         &self,
+///         _n: NodeIndex,
+///         days: &u32,
+///         f: &mut fmt::Formatter<W>,
+///     ) -> fmt::Result {
+///         write_label(format_args!("{days} days"), f)?;
+///         write_attribute("shape", "box", f)
+///     }
+/// }
+///
+/// let mut dag: Dag<u32, u32> = Dag::new(rt.alloc());
+/// let _ = dag.add_node(60)?;
+/// let dot = Dot::new(&dag).node_labels(Days).edge_labels(WeightLabels);
+/// let picture = format!(in rt.alloc(); "{dot}")?;
+/// let line = "0 [ label = \"60 days\" shape = \"box\" ]";
+/// assert!(rt; picture.as_str().contains(line));
+/// ```
 pub trait Label<I, T> {
     // What is written, or `None` if nothing is said of it.
     ghost text: { Self → I → T → Option (List ℕ) } = { λ _ _ _. None };
@@ -28,7 +55,7 @@ pub trait Label<I, T> {
             f.new };
 }
 
-/// The weights as labels, as `Display` writes them: the choice of [`Dot::new`](crate::Dot::new).
+/// The weights as labels, as `Display` writes them: the default of [`Dot::new`](crate::Dot::new).
 #[derive(Clone, Copy, Debug)]
 pub struct WeightLabels;
 

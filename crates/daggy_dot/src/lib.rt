@@ -1,11 +1,16 @@
 //! Pictures of dags, in the language of graphviz.
 #![tactic(auto)]
 
+mod direction;
 mod escapes;
 mod labels;
+mod marks;
 mod picture;
+mod values;
 mod writing;
 
-pub use escapes::write_label;
+pub use direction::RankDir;
+pub use escapes::{write_attribute, write_label};
 pub use labels::{Label, NoLabels, WeightLabels};
 pub use picture::Dot;
+pub use values::{Attribute, Both, Clusters};

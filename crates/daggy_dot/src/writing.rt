@@ -1,41 +1,49 @@
 //! The lines of a picture.
 ghost use Rattle.std.specs.Prelude.{◌≡◌};
+ghost use Rattle.std.specs.Option.{option_map};
 ghost use Rattle.std.specs.Fmt.{DisplaysOnOk, WritesOnOk};
-ghost use Rattle.daggy_dot.specs.Picture.{is_on, begins_with, goes, end_of_line, node_line, edge_line};
+ghost use Rattle.daggy_dot.specs.Picture.{direction_line, title_line, rank_rule};
+ghost use Rattle.daggy_dot.specs.Picture.{end_of_line, node_line, edge_line};
 
+use crate::direction::RankDir;
+use crate::escapes::write_quoted;
 use crate::labels::Label;
 use daggy_base::index::{EdgeIndex, IndexType, NodeIndex};
 use std::fmt::{self, Formatter, Write};
 
-// Whether the path passes through a node.
-fn is_on<Ix: IndexType>(path: &[NodeIndex<Ix>], n: NodeIndex<Ix>) -> bool
-    ensures { result ≡ is_on Ix.number path.now (Ix.number n) }
+// Writes the line of a direction.
+pub(crate) fn write_direction<W: Write>(direction: RankDir, f: &mut Formatter<W>) -> fmt::Result
+    ensures { WritesOnOk W.write_str_gives f.old result (direction_line direction) f.new }
 {
-    path.iter().any(|m| m.index() == n.index())
+    match direction {
+        RankDir::TopToBottom => Ok(()),
+        RankDir::BottomToTop => f.write_str("    rankdir = BT\n"),
+        RankDir::LeftToRight => f.write_str("    rankdir = LR\n"),
+        RankDir::RightToLeft => f.write_str("    rankdir = RL\n"),
+    }
 }
 
-// Whether the path goes from `a` to `b` in one step.
-fn goes<Ix: IndexType>(path: &[NodeIndex<Ix>], a: NodeIndex<Ix>, b: NodeIndex<Ix>) -> bool
-    ensures { result ≡ goes Ix.number path.now (Ix.number a) (Ix.number b) }
+// Writes the line that lets nodes of different boxes share a rank.
+pub(crate) fn write_rank_rule<W: Write>(has_clusters: bool, f: &mut Formatter<W>) -> fmt::Result
+    ensures { WritesOnOk W.write_str_gives f.old result (rank_rule has_clusters) f.new }
 {
-    let mut rest = path;
-    while let Some((from, after)) = rest.split_first() {
-        if from.index() == a.index() && begins_with(after, b) {
-            return true;
-        }
-        rest = after;
+    if has_clusters {
+        f.write_str("    newrank = true\n")?;
     }
-    false
+    Ok(())
 }
 
-// Whether the path begins with a node.
-fn begins_with<Ix: IndexType>(path: &[NodeIndex<Ix>], n: NodeIndex<Ix>) -> bool
-    ensures { result ≡ begins_with Ix.number path.now (Ix.number n) }
+// Writes the line of a title.
+pub(crate) fn write_title<W: Write>(title: Option<&str>, f: &mut Formatter<W>) -> fmt::Result
+    ensures { WritesOnOk W.write_str_gives f.old result
+        (title_line (option_map (λ t. t.now) title.entry)) f.new }
 {
-    match path.first() {
-        Some(m) => m.index() == n.index(),
-        None => false,
+    if let Some(title) = title {
+        f.write_str("    labelloc = t label = \"")?;
+        write_quoted(title, f)?;
+        f.write_str("\"\n")?;
     }
+    Ok(())
 }
 
 // Writes the end of the line of a node or of an edge.
@@ -50,34 +58,32 @@ pub(crate) fn write_node<N, Ix: IndexType, L: Label<NodeIndex<Ix>, N>, W: Write>
     n: NodeIndex<Ix>,
     weight: &N,
     labels: &L,
-    path: &[NodeIndex<Ix>],
+    is_bold: bool,
     f: &mut Formatter<W>,
 ) -> fmt::Result
     ensures { DisplaysOnOk W.write_str_gives f.old result
-        (node_line (Ix.number n) (L.text labels.now n weight.now)
-        (is_on Ix.number path.now (Ix.number n))) f.new }
+        (node_line (Ix.number n) (L.text labels.now n weight.now) is_bold) f.new }
 {
     let x = n.index();
     write!(f, "    {x} [ ")?;
     labels.write(n, weight, f)?;
-    write_end(is_on(path, n), f)
+    write_end(is_bold, f)
 }
 
 // Writes the line of an edge.
-pub(crate) fn write_edge<E, Ix: IndexType, L: Label<EdgeIndex<Ix>, E>, W: Write>(
-    e: EdgeIndex<Ix>,
-    ends: (NodeIndex<Ix>, NodeIndex<Ix>),
+pub(crate) fn write_edge<E, Ix: IndexType, M: Label<EdgeIndex<Ix>, E>, W: Write>(
+    edge: (EdgeIndex<Ix>, NodeIndex<Ix>, NodeIndex<Ix>),
     weight: &E,
-    labels: &L,
-    path: &[NodeIndex<Ix>],
+    labels: &M,
+    is_bold: bool,
     f: &mut Formatter<W>,
 ) -> fmt::Result
     ensures { DisplaysOnOk W.write_str_gives f.old result
-        (edge_line (Ix.number ends.0) (Ix.number ends.1) (L.text labels.now e weight.now)
-        (goes Ix.number path.now (Ix.number ends.0) (Ix.number ends.1))) f.new }
+        (edge_line (Ix.number edge.1) (Ix.number edge.2) (M.text labels.now edge.0 weight.now)
+        is_bold) f.new }
 {
-    let (a, b) = (ends.0.index(), ends.1.index());
+    let (e, a, b) = (edge.0, edge.1.index(), edge.2.index());
     write!(f, "    {a} -> {b} [ ")?;
     labels.write(e, weight, f)?;
-    write_end(goes(path, ends.0, ends.1), f)
+    write_end(is_bold, f)
 }

@@ -13,8 +13,8 @@ use std::marker::{Model, PhantomData};
 /// A graph that displays itself in a format, as made by [`mermaid`], [`graphml`], [`node_table`] or
 /// [`edge_table`].
 ///
-/// The nodes come by ascending index, then the edges by ascending index, each with what its weight
-/// displays. It does not allocate.
+/// The nodes come in ascending index order, then the edges in ascending index order, each with its
+/// weight as `Display` writes it. Displaying it does not allocate.
 ///
 /// # Examples
 ///
@@ -51,7 +51,7 @@ impl<'a, F, N, E, Ix: IndexType, S> Document<'a, F, N, E, Ix, S>
 where
     S: ReadStore<Ix, NodeWeight = N, EdgeWeight = E>,
 {
-    /// A graph in a format, which may have cycles.
+    /// A graph, which may have cycles, in a format.
     pub fn new(graph: &'a S) -> Self
         ensures { result ≡ S.graph graph.now }
     {
@@ -75,6 +75,15 @@ where
 }
 
 /// A graph in [`GraphMl`].
+///
+/// # Examples
+///
+/// ```
+/// let mut dag: Dag<&'static str, u32> = Dag::new(rt.alloc());
+/// let _ = dag.add_node("sow & reap")?;
+/// let text = format!(in rt.alloc(); "{}", graphml(dag.graph()))?;
+/// assert!(rt; text.as_str().contains("<data key=\"weight\">sow &amp; reap</data>"));
+/// ```
 pub fn graphml<N, E, Ix: IndexType, S>(graph: &S) -> Document<'_, GraphMl, N, E, Ix, S>
 where
     S: ReadStore<Ix, NodeWeight = N, EdgeWeight = E>,
@@ -84,6 +93,15 @@ where
 }
 
 /// The nodes of a graph as a table: a [`NodeTable`].
+///
+/// # Examples
+///
+/// ```
+/// let mut dag: Dag<&'static str, u32> = Dag::new(rt.alloc());
+/// let _ = dag.add_node("sow")?;
+/// let nodes = format!(in rt.alloc(); "{}", node_table(dag.graph()))?;
+/// assert_eq!(rt; nodes.as_str(), "node,weight\n0,\"sow\"\n");
+/// ```
 pub fn node_table<N, E, Ix: IndexType, S>(graph: &S) -> Document<'_, NodeTable, N, E, Ix, S>
 where
     S: ReadStore<Ix, NodeWeight = N, EdgeWeight = E>,

@@ -19,7 +19,7 @@ pub trait Format {
 
     ghost footer: { List ℕ } = { [] };
 
-    /// Writes what stands before all nodes.
+    /// Writes what comes before the nodes.
     ///
     /// # Errors
     ///
@@ -58,7 +58,7 @@ pub trait Format {
         ensures { DisplaysOnOk W.write_str_gives f.old result (edge_line a b (E.output weight.now))
             f.new };
 
-    /// Writes what stands after all edges.
+    /// Writes what comes after the edges.
     ///
     /// # Errors
     ///
@@ -67,7 +67,7 @@ pub trait Format {
         ensures { WritesOnOk W.write_str_gives f.old result footer f.new };
 }
 
-/// A flowchart of Mermaid, which many forges and wikis draw where a page has it between fences:
+/// A Mermaid flowchart, which many forges and wikis draw in place of a fenced code block:
 ///
 ///     flowchart TD
 ///         0["sow"]
@@ -223,7 +223,7 @@ impl Format for EdgeTable {
 }
 
 /// GraphML, which networkx reads. A node's identifier is `n` and its index, and the weights are
-/// texts. Control characters that XML does not allow are written as they are.
+/// texts. A character that XML does not allow, such as a control character, is written as U+FFFD.
 #[derive(Clone, Copy, Debug)]
 pub struct GraphMl;
 
@@ -236,6 +236,9 @@ impl Escape for GraphMl {
             '<' => f.write_str("&lt;"),
             '>' => f.write_str("&gt;"),
             '\r' => f.write_str("&#13;"),
+            '\0'..='\x08' | '\x0b' | '\x0c' | '\x0e'..='\x1f' | '\u{fffe}' | '\u{ffff}' => {
+                f.write_char('\u{fffd}')
+            }
             _ => f.write_char(c),
         }
     }

@@ -4,7 +4,7 @@ use crate::support::{made, node, same};
 use daggy_base::index::{EdgeIndex, NodeIndex};
 use daggy_base::source::EdgeSource;
 use daggy_base::store::Store;
-use daggy_dot::{Dot, Label, NoLabels, write_label};
+use daggy_dot::{Dot, Label, NoLabels, RankDir, write_attribute, write_label};
 use daggy_graph::graph::DiGraph;
 use daggy_stable::stable_graph::StableDiGraph;
 use std::alloc::Global;
@@ -53,6 +53,9 @@ enum Picture {
     Cycle,
     VacantSlots,
     Ranks,
+    Directions,
+    Clusters,
+    Attributes,
     InLittleRoom,
 }
 
@@ -67,6 +70,9 @@ fn draw<S: Store<u32, NodeWeight = Text, EdgeWeight = u32>>(
         Picture::Cycle => draw_parallel_edges_and_a_cycle::<S>(rt, alloc),
         Picture::VacantSlots => draw_vacant_slots::<S>(rt, alloc),
         Picture::Ranks => draw_ranks_and_a_path::<S>(rt, alloc),
+        Picture::Directions => draw_titles_and_directions::<S>(rt, alloc),
+        Picture::Clusters => draw_clusters::<S>(rt, alloc),
+        Picture::Attributes => draw_attributes::<S>(rt, alloc),
         Picture::InLittleRoom => draw_in_little_room::<S>(rt, alloc),
     }
 }
@@ -155,7 +161,8 @@ fn draw_parallel_edges_and_a_cycle<S: Store<u32, NodeWeight = Text, EdgeWeight =
 }
 ";
     let path = [node(rt, 0), node(rt, 1)];
-    shows(rt, alloc, Dot::of_graph(&graph).bold(&path), text);
+    let dot = made(rt, Dot::of_graph(&graph).bold(alloc, &path));
+    shows(rt, alloc, dot, text);
 }
 
 #[test]
@@ -182,7 +189,7 @@ fn draw_vacant_slots<S: Store<u32, NodeWeight = Text, EdgeWeight = u32>>(
     { rank = same; 2; }
 }
 ";
-    let dot = Dot::of_graph(&graph).ranks(&stages).bold(&path);
+    let dot = made(rt, Dot::of_graph(&graph).ranks(&stages).bold(alloc, &path));
     shows(rt, alloc, dot, text);
 }
 
@@ -201,7 +208,7 @@ impl Label<NodeIndex, u32> for Boxes<'_> {
     fn write<W: Write>(&self, n: NodeIndex, days: &u32, f: &mut Formatter<W>) -> fmt::Result {
         let (x, days, unit) = (n.index(), *days, self.unit);
         write_label(format_args!("{x}: {days} {unit}"), f)?;
-        f.write_str("shape = box ")
+        write_attribute("shape", "box", f)
     }
 }
 
@@ -221,8 +228,8 @@ fn draw_labels_of_ones_own<S: Store<u32, NodeWeight = u32, EdgeWeight = ()>>(
 ) {
     let graph: S = graph_of(rt, alloc, &[3, 5], &[(0, 1, ())]);
     let text = "digraph {
-    0 [ label = \"0: 3 \\\"days\\\"\" shape = box ]
-    1 [ label = \"1: 5 \\\"days\\\"\" shape = box ]
+    0 [ label = \"0: 3 \\\"days\\\"\" shape = \"box\" ]
+    1 [ label = \"1: 5 \\\"days\\\"\" shape = \"box\" ]
     0 -> 1 [ label = \"0\" ]
 }
 ";
@@ -250,7 +257,10 @@ fn draw_no_labels<S: Store<u32, NodeWeight = u32, EdgeWeight = ()>>(
 }
 ";
     let path = [node(rt, 0)];
-    let dot = Dot::of_graph(&graph).no_edge_labels().bold(&path);
+    let dot = made(
+        rt,
+        Dot::of_graph(&graph).no_edge_labels().bold(alloc, &path),
+    );
     shows(rt, alloc, dot, text);
     let text = "digraph {
     0 [ ]
@@ -295,13 +305,170 @@ fn draw_ranks_and_a_path<S: Store<u32, NodeWeight = Text, EdgeWeight = u32>>(
     { rank = same; 3; }
 }
 ";
-    let dot = Dot::of_graph(&graph).bold(&path).ranks(&stages);
+    let dot = made(rt, Dot::of_graph(&graph).bold(alloc, &path)).ranks(&stages);
     shows(rt, alloc, dot, text);
 }
 
 #[test]
 fn ranks_and_a_path(rt: HostRuntime) {
     draw_compact(&rt, rt.alloc(), Picture::Ranks);
+}
+
+fn draw_titles_and_directions<S: Store<u32, NodeWeight = Text, EdgeWeight = u32>>(
+    rt: &impl Abort,
+    alloc: Global,
+) {
+    let graph: S = graph_of(rt, alloc, &["sow"], &[]);
+    let text = "digraph {
+    rankdir = BT
+    labelloc = t label = \"A \\\"garden\\\"\"
+    0 [ label = \"sow\" ]
+}
+";
+    let dot = Dot::of_graph(&graph).title("A \"garden\"");
+    shows(rt, alloc, dot.rank_dir(RankDir::BottomToTop), text);
+    let text = "digraph {
+    rankdir = RL
+    0 [ label = \"sow\" ]
+}
+";
+    let dot = Dot::of_graph(&graph).rank_dir(RankDir::RightToLeft);
+    shows(rt, alloc, dot, text);
+    let text = "digraph {
+    0 [ label = \"sow\" ]
+}
+";
+    let dot = Dot::of_graph(&graph).left_to_right();
+    shows(rt, alloc, dot.rank_dir(RankDir::TopToBottom), text);
+}
+
+#[test]
+fn titles_and_directions(rt: HostRuntime) {
+    draw_compact(&rt, rt.alloc(), Picture::Directions);
+}
+
+fn draw_clusters<S: Store<u32, NodeWeight = Text, EdgeWeight = u32>>(
+    rt: &impl Abort,
+    alloc: Global,
+) {
+    let names = ["sow", "hoe", "mow", "reap"];
+    let edges = [(0, 2, 20), (0, 3, 60)];
+    let mut graph: S = graph_of(rt, alloc, &names, &edges);
+    let _ = graph.remove_node(node(rt, 1));
+    let text = "digraph {
+    newrank = true
+    labelloc = t label = \"A garden\"
+    0 [ label = \"sow\" ]
+    subgraph \"cluster_with \\\"s\\\"\" { label = \"with \\\"s\\\"\" 0 }
+    2 [ label = \"mow\" ]
+    3 [ label = \"reap\" ]
+    subgraph \"cluster_with r\" { label = \"with r\" 3 }
+    0 -> 2 [ label = \"20\" ]
+    0 -> 3 [ label = \"60\" ]
+    { rank = same; 2; 3; }
+}
+";
+    let stages = [list(rt, alloc, &[node(rt, 2), node(rt, 3)])];
+    let initials = |_: NodeIndex, name: &Text| {
+        if name.starts_with('s') {
+            Some("with \"s\"")
+        } else if name.starts_with('r') {
+            Some("with r")
+        } else {
+            None
+        }
+    };
+    let dot = Dot::of_graph(&graph).title("A garden").ranks(&stages);
+    shows(rt, alloc, made(rt, dot.clusters(alloc, initials)), text);
+}
+
+#[test]
+fn clusters(rt: HostRuntime) {
+    draw_stable(&rt, rt.alloc(), Picture::Clusters);
+}
+
+fn draw_attributes<S: Store<u32, NodeWeight = Text, EdgeWeight = u32>>(
+    rt: &impl Abort,
+    alloc: Global,
+) {
+    let edges = [(0, 1, 20), (0, 2, 90), (1, 2, 60)];
+    let mut graph: S = graph_of(rt, alloc, &["sow", "hoe", "reap"], &edges);
+    let _ = graph.remove_edge(EdgeIndex::new(1));
+    let text = "digraph {
+    0 [ label = \"sow\" ]
+    1 [ label = \"hoe\" color = \"red\" shape = \"box\" ]
+    2 [ label = \"reap\" shape = \"box\" style = bold ]
+    0 -> 1 [ label = \"20\" ]
+    1 -> 2 [ label = \"60\" penwidth = \"6\" ]
+}
+";
+    let color = |_: NodeIndex, name: &Text| if *name == "hoe" { Some("red") } else { None };
+    let shape = |n: NodeIndex, _: &Text| if n.index() > 0 { Some("box") } else { None };
+    let width = |_: EdgeIndex, days: &u32| if *days > 30 { Some(*days / 10) } else { None };
+    let dot = made(rt, Dot::of_graph(&graph).bold(alloc, &[node(rt, 2)]));
+    let dot = made(rt, dot.node_attribute(alloc, "color", color));
+    let dot = made(rt, dot.node_attribute(alloc, "shape", shape));
+    shows(
+        rt,
+        alloc,
+        made(rt, dot.edge_attribute(alloc, "penwidth", width)),
+        text,
+    );
+}
+
+#[test]
+fn attributes(rt: HostRuntime) {
+    draw_stable(&rt, rt.alloc(), Picture::Attributes);
+}
+
+// Asserts that a label of so many letters has lines of 3,000.
+fn shows_long_label(rt: &impl Abort, alloc: Global, letters: usize) {
+    let mut graph = DiGraph::<String, (), u32>::new(alloc);
+    let mut label = String::new(alloc);
+    let mut lines = String::new(alloc);
+    for i in 0..letters {
+        made(rt, label.push('&'));
+        if i > 0 && i % 3000 == 0 {
+            made(rt, lines.push_str("\\\n"));
+        }
+        made(rt, lines.push_str("&amp;"));
+    }
+    let _ = graph.add_node(label);
+    let text = made(
+        rt,
+        format!(in alloc; "digraph {{\n    0 [ label = \"{lines}\" ]\n}}\n"),
+    );
+    shows(
+        rt,
+        alloc,
+        Dot::of_graph(&graph).no_edge_labels(),
+        text.as_str(),
+    );
+}
+
+#[test]
+fn long_labels(rt: HostRuntime) {
+    shows_long_label(&rt, rt.alloc(), 2999);
+    shows_long_label(&rt, rt.alloc(), 3000);
+    shows_long_label(&rt, rt.alloc(), 3001);
+    shows_long_label(&rt, rt.alloc(), 7000);
+}
+
+fn draw_forbidden_characters(rt: &impl Abort, alloc: Global) {
+    let names = ["a\0b\x1fc\x7f", "\t\r", "\u{fffe}\u{fffd}\u{ffff}"];
+    let graph: DiGraph<Text, (), u32> = graph_of(rt, alloc, &names, &[]);
+    let text = "digraph {
+    0 [ label = \"a\u{fffd}b\u{fffd}c\x7f\" ]
+    1 [ label = \"\t\r\" ]
+    2 [ label = \"\u{fffd}\u{fffd}\u{fffd}\" ]
+}
+";
+    shows(rt, alloc, Dot::of_graph(&graph).no_edge_labels(), text);
+}
+
+#[test]
+fn forbidden_characters(rt: HostRuntime) {
+    draw_forbidden_characters(&rt, rt.alloc());
 }
 
 // A writer with room for a number of bytes.
@@ -346,7 +513,7 @@ fn draw_in_little_room<S: Store<u32, NodeWeight = Text, EdgeWeight = u32>>(
     let (first, last) = (node(rt, 0), node(rt, 1));
     let path = [first, last];
     let stages = [list(rt, alloc, &[first, last])];
-    let dot = Dot::of_graph(&graph).bold(&path).ranks(&stages);
+    let dot = made(rt, Dot::of_graph(&graph).bold(alloc, &path)).ranks(&stages);
     needs_room(rt, alloc, dot);
 }
 

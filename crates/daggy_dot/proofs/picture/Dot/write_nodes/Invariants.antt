@@ -6,5 +6,5 @@ use Rattle.daggy_dot.proofs.picture.Dot.write_nodes.Given as goal
 
 abbrev pub invariant-nodes : goal.invariant-nodes
 invariant-nodes g l = IsPlainFormatter l.initial.f → IfSome
-    (lines_of (line_of_node g.Ix.IndexType.number g.Ix.IndexType.of g.L.Label.text l.self) l.self.graph.nodes l.x)
+    (lines_of (line_of_node g.Ix.IndexType.of g.L.Label.text g.K.Label.text l.self) l.self.graph.nodes l.x)
     (λ bs. HasWritten g.W.Write.write_str_gives l.initial.f bs l.f)
