@@ -1,4 +1,5 @@
 //! Lines that describe a target, and what can be wrong with them.
+use std::alloc::{AllocError, Global};
 use thiserror::Error;
 
 /// A line `target seconds @time: dependency ..`.
@@ -18,34 +19,55 @@ pub struct Line<'a> {
 pub enum BadLine {
     #[error("not UTF-8")]
     NotText,
-    #[error("not of the form `target seconds: dependency ..`")]
+    #[error("no colon, as in `target seconds: dependency ..`")]
+    NoColon,
+    #[error("no target before the colon")]
     NoTarget,
+    #[error("no seconds after the target")]
+    NoSeconds,
+    #[error("{0:?} is not a whole number of seconds")]
+    NotSeconds(String),
+    #[error("{0:?} is not a time, such as `@30`")]
+    NotATime(String),
+    #[error("{0:?} is one word too many before the colon")]
+    TooMany(String),
     #[error("the target has a line already")]
     Twice,
+    #[error(transparent)]
+    Memory(#[from(alloc)] AllocError),
     #[error(transparent)]
     Failed(#[from] anyhow::Error),
 }
 
 /// Reads a line.
-pub fn parse(text: &str) -> Result<Line<'_>, BadLine> {
-    let (before, dependencies) = text.split_once(':').ok_or(BadLine::NoTarget)?;
+pub fn parse(alloc: Global, text: &str) -> Result<Line<'_>, BadLine> {
+    let (before, dependencies) = text.split_once(':').ok_or(BadLine::NoColon)?;
     let mut words = before.split_whitespace();
     let target = words.next().ok_or(BadLine::NoTarget)?;
-    let seconds = words.next().and_then(|word| word.parse().ok());
+    let word = words.next().ok_or(BadLine::NoSeconds)?;
+    let Ok(seconds) = word.parse() else {
+        return Err(BadLine::NotSeconds(String::from_str(alloc, word)?));
+    };
     let time = match words.next() {
         None => None,
-        Some(word) => {
-            let time = word.strip_prefix('@').and_then(|time| time.parse().ok());
-            Some(time.ok_or(BadLine::NoTarget)?)
-        }
+        Some(word) => Some(time_of(alloc, word)?),
     };
-    if words.next().is_some() {
-        return Err(BadLine::NoTarget);
+    if let Some(word) = words.next() {
+        return Err(BadLine::TooMany(String::from_str(alloc, word)?));
     }
     Ok(Line {
         target,
-        seconds: seconds.ok_or(BadLine::NoTarget)?,
+        seconds,
         time,
         dependencies,
     })
+}
+
+/// The time that a word `@time` gives.
+fn time_of(alloc: Global, word: &str) -> Result<u64, BadLine> {
+    let time = word.strip_prefix('@').and_then(|time| time.parse().ok());
+    match time {
+        Some(time) => Ok(time),
+        None => Err(BadLine::NotATime(String::from_str(alloc, word)?)),
+    }
 }

@@ -21,59 +21,66 @@ use std::{env, fs};
 
 static DETAILS: &str = "\
 Each line has the form `target seconds: dependency ..`: how long the target takes, and what it needs. \
-`@time` behind the seconds says when it was built last, as a whole number. A name that has no line is \
-a source, which is there. Empty lines and lines that begin with `#` are skipped.
+`@time` after the seconds says when it was built last, as a whole number. A name without a line is a \
+source, which always exists. Empty lines and lines that begin with `#` are skipped.
 
-A target is out of date if it was not built yet, if it was built before something that it needs, or \
-if something that it needs is out of date. Each one that a worker begins is printed, with the time \
-and the number of the worker.
+A target is out of date if it was not built yet, if it was built before one of its dependencies, or if \
+one of its dependencies is out of date. Each target that a worker begins is printed, with the time and \
+the number of the worker.
 
-A bad line, or a dependency by which a target would need itself, is left out and reported on standard \
-error.
+An invalid line, and a dependency that would close a cycle, is left out and reported on standard \
+error, with the number of the line.
 
-Exit status: 0 if every line was good, 1 if one was bad, 2 if the arguments are wrong, the input \
-cannot be read, or memory runs out.";
+Exit status: 0 if nothing was reported, 1 if something was, 2 if the arguments are wrong, the input \
+cannot be read, the durations sum up to too much, or memory runs out.";
 
 /// The command line.
 fn command<'a>(alloc: Global) -> Result<Command<'a>, AllocError> {
     let workers = Arg::new(alloc, "workers")
         .long("workers")
         .value_name("N")
-        .help("How many targets are built side by side [default: 1]");
+        .help("The number of parallel jobs [default: 1]");
     let dry_run = Arg::new(alloc, "dry-run")
         .long("dry-run")
         .action(ArgAction::SetTrue)
-        .help("Print what is out of date, each after what it needs, and build nothing");
+        .help("Print the targets that are out of date, dependencies first, and build nothing");
     let plan = Arg::new(alloc, "plan")
         .long("plan")
         .action(ArgAction::SetTrue)
         .help("Print a schedule on the workers, longest path first, and build nothing");
+    let strict = Arg::new(alloc, "strict")
+        .long("strict")
+        .action(ArgAction::SetTrue)
+        .help("Report each dependency that has no line");
     let file = Arg::new(alloc, "file")
         .value_name("FILE")
         .help("The file to read [default: standard input]");
     Command::new(alloc, "example_build")
-        .about("Builds what is out of date, by several workers.")
+        .about("Builds out-of-date targets in parallel.")
         .after_help(DETAILS)
         .arg(workers)?
         .arg(dry_run)?
         .arg(plan)?
+        .arg(strict)?
         .arg(file)
 }
 
-/// Takes a line. An empty one, and one that begins with `#`, says nothing.
+/// Takes a line, and returns how many of its dependencies were left out. An empty line, and one that
+/// begins with `#`, says nothing.
 fn take_line(
     rt: &(impl Eprint + AllocGlobal),
     targets: &mut Targets,
+    number: u64,
     bytes: &[u8],
-) -> Result<(), BadLine> {
+) -> Result<u64, BadLine> {
     let text = str::from_utf8(bytes).map_err(|_| BadLine::NotText)?.trim();
     if text.is_empty() || text.starts_with('#') {
-        return Ok(());
+        return Ok(0);
     }
-    targets.add(rt, parse(text)?)
+    targets.add(rt, number, parse(rt.alloc(), text)?)
 }
 
-/// Takes all lines, numbered from 1, and returns how many were bad.
+/// Takes all lines, numbered from 1, and returns how often something was reported.
 fn take_lines<R: Read + Drop>(
     rt: &(impl Eprint + AllocGlobal),
     input: R,
@@ -84,9 +91,10 @@ fn take_lines<R: Read + Drop>(
     let mut bad = 0u64;
     for line in input.split(rt.alloc(), b'\n') {
         number = number.checked_add(1).context("too many lines")?;
-        match take_line(rt, targets, line?.as_slice()) {
-            Ok(()) => {}
+        match take_line(rt, targets, number, line?.as_slice()) {
+            Ok(left_out) => bad = bad.saturating_add(left_out),
             Err(BadLine::Failed(error)) => return Err(error),
+            Err(BadLine::Memory(error)) => return Err(error.into()),
             Err(error) => {
                 eprintln!(rt; "line {number}: {error}")?;
                 bad = bad.saturating_add(1);
@@ -105,7 +113,7 @@ fn workers_in(matches: &ArgMatches<'_>) -> Result<NonZeroUsize> {
     workers.context("the number of workers is not a whole number above 0")
 }
 
-/// Reads the file, or standard input, and returns how many lines were bad.
+/// Reads the file, or standard input, and returns how often something was reported.
 fn read(
     rt: &(impl Files + Input + Eprint + AllocGlobal),
     matches: &ArgMatches<'_>,
@@ -120,14 +128,17 @@ fn read(
     }
 }
 
-/// Reads the targets, does what the options say, and returns whether every line was good.
+/// Reads the targets, does what the options say, and returns whether nothing was reported.
 fn build(
     rt: &(impl Files + Input + Print + Eprint + AllocGlobal),
     matches: &ArgMatches<'_>,
 ) -> Result<bool> {
     let workers = workers_in(matches)?;
     let mut targets = Targets::new(rt.alloc());
-    let bad = read(rt, matches, &mut targets)?;
+    let mut bad = read(rt, matches, &mut targets)?;
+    if matches.get_flag("strict") {
+        bad = bad.saturating_add(targets.report_sources(rt)?);
+    }
     if matches.get_flag("dry-run") {
         targets.print_outdated(rt)?;
     } else if matches.get_flag("plan") {

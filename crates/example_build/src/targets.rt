@@ -3,7 +3,7 @@ use crate::line::{BadLine, Line};
 use crate::workers::Shop;
 use anyhow::{Context, Result, bail};
 use daggy::named::{DependError, Named};
-use daggy::schedule::{Schedule, schedule_on, topological_order_by};
+use daggy::schedule::{Schedule, ScheduleError, schedule_on, topological_order_by};
 use daggy::visit::NodeIndexable;
 use daggy::{NodeIndex, Walker};
 use std::alloc::{AllocError, Global};
@@ -23,6 +23,15 @@ pub struct Target {
 pub struct Targets {
     alloc: Global,
     by_name: Named<String, Target, ()>,
+}
+
+/// A schedule, or what is wrong with the durations.
+fn scheduled<T: Drop>(schedule: Result<T, ScheduleError>) -> Result<T> {
+    match schedule {
+        Ok(schedule) => Ok(schedule),
+        Err(ScheduleError::Overflow) => bail!("the durations sum up to 2^64 seconds or more"),
+        Err(error) => Err(error.into()),
+    }
 }
 
 /// The name of a target.
@@ -53,9 +62,14 @@ impl Targets {
         Ok(())
     }
 
-    /// Adds the target of a line, and what it needs. A dependency that would close a cycle is reported
-    /// and left out.
-    pub fn add(&mut self, rt: &(impl Eprint + AllocGlobal), line: Line<'_>) -> Result<(), BadLine> {
+    /// Adds the target of a line, and what it needs. Dependencies that would close a cycle are
+    /// reported and left out; returns how many there were.
+    pub fn add(
+        &mut self,
+        rt: &(impl Eprint + AllocGlobal),
+        number: u64,
+        line: Line<'_>,
+    ) -> Result<u64, BadLine> {
         self.add_name(line.target)?;
         if let Some(target) = self.by_name.weight_mut(line.target) {
             if target.given {
@@ -67,25 +81,52 @@ impl Targets {
                 time: line.time,
             };
         }
+        let mut left_out = 0u64;
         for word in line.dependencies.split_whitespace() {
-            self.depend(rt, word, line.target)?;
+            if !self.depend(word, line.target)? {
+                self.report_cycle(rt, number, word, line.target)?;
+                left_out = left_out.saturating_add(1);
+            }
         }
-        Ok(())
+        Ok(left_out)
     }
 
-    /// Adds that a target needs something.
-    fn depend(&mut self, rt: &impl Eprint, needed: &str, target: &str) -> Result<()> {
+    /// Adds that a target needs something, unless that would close a cycle. Returns whether it was
+    /// added.
+    fn depend(&mut self, needed: &str, target: &str) -> Result<bool> {
         self.add_name(needed)?;
         match self.by_name.depend(needed, target, ()) {
-            Ok(_) => Ok(()),
-            Err(DependError::WouldCycle(())) => self.report_cycle(rt, needed, target),
+            Ok(_) => Ok(true),
+            Err(DependError::WouldCycle(())) => Ok(false),
             Err(error) => bail!("{error}"),
         }
     }
 
+    /// Reports each name that has no line, and returns how many there are.
+    pub fn report_sources(&self, rt: &impl Eprint) -> Result<u64> {
+        let mut count = 0u64;
+        for name in self.by_name.keys() {
+            if self
+                .by_name
+                .weight(name)
+                .is_some_and(|target| !target.given)
+            {
+                eprintln!(rt; "{name} has no line")?;
+                count = count.saturating_add(1);
+            }
+        }
+        Ok(count)
+    }
+
     /// Reports the cycle that a dependency would close.
-    fn report_cycle(&mut self, rt: &impl Eprint, needed: &str, target: &str) -> Result<()> {
-        eprint!(rt; "cycle: {target}")?;
+    fn report_cycle(
+        &mut self,
+        rt: &impl Eprint,
+        number: u64,
+        needed: &str,
+        target: &str,
+    ) -> Result<()> {
+        eprint!(rt; "line {number}: cycle: {target}")?;
         if let Some(path) = self.by_name.cycle(needed, target)? {
             for n in path.as_slice().iter().rev() {
                 eprint!(rt; " needs {}", name(&self.by_name, *n))?;
@@ -142,7 +183,7 @@ impl Targets {
             Some(true) => target.seconds,
             _ => 0,
         };
-        let plan = schedule_on(self.alloc, dag, seconds, workers)?;
+        let plan = scheduled(schedule_on(self.alloc, dag, seconds, workers))?;
         for n in topological_order_by(self.alloc, dag, |n, _| name(targets, n))? {
             let i = n.index();
             if outdated.get(i) == Some(&true) {
@@ -151,7 +192,7 @@ impl Targets {
                 }
             }
         }
-        let longest = Schedule::new(self.alloc, dag, seconds)?;
+        let longest = scheduled(Schedule::new(self.alloc, dag, seconds))?;
         print!(rt; "{} s, at least {} s:", plan.makespan, longest.makespan)?;
         for n in longest.critical {
             print!(rt; " {}", name(targets, n))?;
@@ -179,7 +220,9 @@ impl Targets {
                         continue;
                     }
                 };
-                let worker = shop.begin(n, seconds).context("the times are too long")?;
+                let worker = shop
+                    .begin(n, seconds)
+                    .context("the durations sum up to 2^64 seconds or more")?;
                 println!(rt; "{} s, worker {worker}: {}", shop.time, name(targets, n))?;
             }
             if !shop.finish() {

@@ -4,6 +4,7 @@
 //! a picture.
 #![tactic(auto)]
 
+mod groups;
 mod needs;
 mod status;
 
@@ -22,12 +23,13 @@ The input has the form of /var/lib/dpkg/status: a paragraph for each package, of
 value`. The fields Package, Status, Installed-Size, Provides, Depends and Pre-Depends are read. Of \
 alternatives, as in `Depends: mawk | gawk`, the first that is installed or provided counts.
 
-The packages are printed in stages: each needs only packages of earlier stages, and no division into \
-fewer stages is possible. The last line is the path of packages that are the most to install one \
-after another, by their sizes.
+The packages are printed in stages. Packages that need each other are a group, in braces, which is \
+installed together. A stage needs only packages of its own groups and of earlier stages, and no \
+division into fewer stages is possible. The last line is the path of groups that are the most to \
+install one after another, by their sizes.
 
-A need that would close a cycle is left out, and the cycle is reported on standard error, and so are \
-needs that nothing meets, and bad lines.
+Each group of packages that need each other is reported on standard error, with a shortest circle of \
+needs in it, and so are needs that nothing meets, and bad lines.
 
 Exit status: 0 if every line was good, 1 if one was bad, 2 if the arguments are wrong, the input \
 cannot be read, or memory runs out.";
@@ -94,10 +96,12 @@ fn print(
     let mut packages = Packages::new(rt.alloc());
     let bad = read_input(rt, matches, &mut packages)?;
     let needs = Needs::of(rt, packages.as_slice())?;
+    let groups = needs.groups()?;
+    groups.report(rt)?;
     if matches.get_flag("dot") {
-        needs.draw(rt)?;
+        groups.draw(rt)?;
     } else {
-        needs.print(rt)?;
+        groups.print(rt)?;
     }
     Ok(bad == 0)
 }
