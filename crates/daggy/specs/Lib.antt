@@ -54,6 +54,7 @@ pub use Rattle.daggy_paths.specs.EdgePaths
 pub use Rattle.daggy_dag.specs.Connecting
 pub use Rattle.daggy_dag.specs.WholeReduction
 pub use Rattle.daggy_dag.specs.FromGraph
+pub use Rattle.daggy_operators.specs.Operators
 pub use Rattle.daggy_schedule.specs.Work
 pub use Rattle.daggy_schedule.specs.Times
 pub use Rattle.daggy_schedule.specs.LeastFirst
@@ -69,6 +70,7 @@ pub use Rattle.daggy_named.specs.Refused
 pub use Rattle.daggy_named.specs.Lends as NamedLends
 pub use Rattle.daggy_dot.specs.Picture
 pub use Rattle.daggy_dot.specs.Escapes
+pub use Rattle.daggy_dot.specs.Values as DotValues
 pub use Rattle.daggy_formats.specs.Document as Formats
 pub use Rattle.daggy_formats.specs.Escapes as FormatEscapes
 pub use Rattle.daggy_formats.specs.Lines as FormatLines
@@ -93,6 +95,8 @@ pub use Rattle.daggy_components.specs.Components
 pub use Rattle.daggy_components.specs.Condensation
 pub use Rattle.daggy_components.specs.Cycles
 pub use Rattle.daggy_components.specs.WeakComponents
+pub use Rattle.daggy_condensation.specs.Between as BetweenComponents
+pub use Rattle.daggy_condensation.specs.Folding
 pub use Rattle.daggy_cycles.specs.CycleEdges
 pub use Rattle.daggy_cycles.specs.EdgeWays
 pub use Rattle.daggy_cycles.specs.Feedback

@@ -6,10 +6,14 @@
 //! one through a node, and [`feedback_arc_set`] edges to leave out so that there is none.
 //!
 //! The condensation of a graph has a node for each strongly connected component. [`condensed_dag`]
-//! makes a dag of it, and [`condensation`] a store.
+//! makes a dag of it, and [`condensation`] a store, with one edge for each two components.
+//! [`condensed_dag_with_all_edges`] has all edges between components, and
+//! [`condensed_dag_with_fold`] one for each two, with their weights folded.
 pub use daggy_components::{
     Components, EdgeSlots, Iter, NodeSlots, condensation, condensation_slots, find_cycle,
     strongly_connected_components, weakly_connected_components,
 };
-pub use daggy_condensation::condensed_dag;
+pub use daggy_condensation::{
+    condensed_dag, condensed_dag_with_all_edges, condensed_dag_with_fold,
+};
 pub use daggy_cycles::{cycle_edges, feedback_arc_set, find_cycle_edges, shortest_cycle};

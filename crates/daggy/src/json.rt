@@ -1,8 +1,8 @@
 //! Dags as JSON values.
 //!
 //! A document has the weights of the nodes, the edges, and the order of the edges in the lists of
-//! each node, so that reading it restores the dag. Functions that are passed encode and decode the
-//! weights.
+//! each node, so that reading it restores the dag. The caller passes functions that encode and
+//! decode the weights.
 //!
 //! [`dag_to_json`] and [`stable_to_json`] make a value, and [`write_json`] writes the text without
 //! making one. [`dag_from_json`] and [`stable_from_json`] read a value.

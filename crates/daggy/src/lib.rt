@@ -19,6 +19,7 @@
 //!
 //! - [`named`]: dags whose nodes have keys, and whose methods require nothing; [`computed`]: dags
 //!   whose nodes have formulas and values.
+//! - [`operators`]: a part of a dag as a dag, and reversed dags.
 //! - [`schedule`]: ready queues, schedules and orders by keys; [`run`]: plans in stages, and lists
 //!   of commands.
 //! - [`traversal`]: breadth first and depth first; [`walker`]: walks along edges, and their
@@ -38,6 +39,7 @@ pub mod graph;
 pub mod index;
 pub mod json;
 pub mod named;
+pub mod operators;
 pub mod run;
 pub mod schedule;
 pub mod search;

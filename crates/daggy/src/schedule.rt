@@ -1,7 +1,7 @@
-//! Working off the nodes of a dag, each after its parents, and scheduling them by durations.
+//! Processing the nodes of a dag, each after its parents, and scheduling them by durations.
 //!
 //! [`Ready`] and [`ReadyByKey`] return the nodes whose parents are done, first come first served or
-//! by priority. [`topological_order_by`] lists all nodes in such an order.
+//! by priority. [`topological_order_by`] lists all nodes, each after its parents, by priority.
 //!
 //! [`Schedule`] has the earliest start and the slack of each node, and a critical path.
 //! [`schedule_on`] assigns the nodes to a number of workers.
