@@ -76,7 +76,7 @@ page = text_of("docs/USING.md")
 if blocks(page, "text") != [text_of(f"{EXAMPLE}/stdout")]:
     complain("docs/USING.md: the program of .ci/use prints something else")
 pages = {"docs/SHEET.md": "example_sheet", "docs/PACKAGES.md": "example_packages", "docs/BUILD.md": "example_build"}
-using = [(path, block) for path in ["docs/USING.md", *pages] for block in blocks(made.RECIPE.sub("", text_of(path)), "rust")]
+using = [(path, block) for path in [*made.RECIPE_PAGES, *pages] for block in blocks(made.RECIPE.sub("", text_of(path)), "rust")]
 for path, block in using:
     parts = [code_of(part) for part in re.split(r"^ *// \.\.$", block, flags=re.M)]
     if not any(stand_in([part for part in parts if part], lines) for lines in sources.values()):

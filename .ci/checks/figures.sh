@@ -7,6 +7,8 @@ trap 'rm -rf "$room"' EXIT
 mkdir -p "$room/docs/internals"
 cp -r docs/figures "$room/docs"
 cp docs/internals/BENCHMARKS.md "$room/docs/internals"
+cp docs/BUILD.md "$room/docs"
+cp crates.txt "$room"
 "$room/docs/figures/draw.sh" >/dev/null || exit 1
 drawn=0
 for figure in "$room"/docs/*.svg; do

@@ -31,7 +31,7 @@ CONSTANT = {
     "raw_nodes",
     "Direction": "opposite",
     "Document": "new",
-    "Dot": "edge_labels left_to_right new no_edge_labels node_labels of_graph ranks",
+    "Dot": "edge_labels left_to_right new no_edge_labels node_labels of_graph rank_dir ranks title",
     "Edge": "next_edge source target",
     "EdgeError": "into_weight",
     "EdgeIndex": "end index new",
