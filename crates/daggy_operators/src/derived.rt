@@ -14,9 +14,9 @@ use std::alloc::{AllocError, Global};
 /// nodes' weights are borrowed; for the weight of an edge, ask the dag.
 ///
 /// What takes a dag takes the part, so a plan, a schedule, a ready queue, a picture or a reduction
-/// can be of a part alone: of what some targets need, say, which are they and their ancestors.
-/// Indices that are not nodes of the dag are ignored, and so is how often one is given. Each list is
-/// in descending index order.
+/// can be of a part alone, such as some targets and their ancestors. Indices that are not nodes of
+/// the dag are ignored, and an index may be given more than once. Each list is in descending index
+/// order.
 ///
 /// # Errors
 ///

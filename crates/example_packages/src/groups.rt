@@ -74,7 +74,7 @@ impl<'a> Groups<'a> {
         })?)
     }
 
-    /// Reports the packages that need each other, and for each group of them a shortest circle.
+    /// Reports the packages that need each other, and for each group of them a shortest cycle.
     pub fn report(&self, rt: &impl Eprint) -> Result<()> {
         for group in self.dag.node_indices() {
             let packages = self.packages(group);
@@ -84,7 +84,7 @@ impl<'a> Groups<'a> {
                     packages,
                 };
                 eprintln!(rt; "{} need each other: {names}", packages.len())?;
-                self.needs.report_circle(rt, *first)?;
+                self.needs.report_cycle(rt, *first)?;
             }
         }
         Ok(())

@@ -24,12 +24,11 @@ value`. The fields Package, Status, Installed-Size, Provides, Depends and Pre-De
 alternatives, as in `Depends: mawk | gawk`, the first that is installed or provided counts.
 
 The packages are printed in stages. Packages that need each other are a group, in braces, which is \
-installed together. A stage needs only packages of its own groups and of earlier stages, and no \
-division into fewer stages is possible. The last line is the path of groups that are the most to \
-install one after another, by their sizes.
+installed together. All other packages that a group needs are in earlier stages, and no division \
+into fewer stages is possible. The last line is the chain of groups with the greatest total size.
 
-Each group of packages that need each other is reported on standard error, with a shortest circle of \
-needs in it, and so are needs that nothing meets, and bad lines.
+Each group of several packages is reported on standard error, with a shortest cycle through one of \
+its packages. So are dependencies that no package meets, and bad lines.
 
 Exit status: 0 if every line was good, 1 if one was bad, 2 if the arguments are wrong, the input \
 cannot be read, or memory runs out.";

@@ -138,14 +138,14 @@ impl Needs {
         Ok(Groups::of(self.alloc, self, dag))
     }
 
-    /// Reports a shortest circle of needs through a package, if there is one.
-    pub fn report_circle(&self, rt: &impl Eprint, package: NodeIndex) -> Result<()> {
+    /// Reports a shortest cycle through a package, if there is one.
+    pub fn report_cycle(&self, rt: &impl Eprint, package: NodeIndex) -> Result<()> {
         let mut source = Reading::new(&self.graph);
-        let Some(circle) = shortest_cycle(self.alloc, &mut source, package)? else {
+        let Some(cycle) = shortest_cycle(self.alloc, &mut source, package)? else {
             return Ok(());
         };
         eprint!(rt; "{}", self.name(package))?;
-        for n in circle.as_slice().iter().rev() {
+        for n in cycle.as_slice().iter().rev() {
             eprint!(rt; " needs {}", self.name(*n))?;
         }
         eprintln!(rt; "")?;

@@ -421,7 +421,7 @@ fn attributes(rt: HostRuntime) {
     draw_stable(&rt, rt.alloc(), Picture::Attributes);
 }
 
-// Asserts that a label of so many letters has lines of 3,000.
+// Asserts that a label of that many letters is written in lines of 3,000.
 fn shows_long_label(rt: &impl Abort, alloc: Global, letters: usize) {
     let mut graph = DiGraph::<String, (), u32>::new(alloc);
     let mut label = String::new(alloc);
