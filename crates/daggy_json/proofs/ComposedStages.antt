@@ -19,47 +19,48 @@ use Rattle.daggy_base.specs.FromSlots.{graph_of_slots}
 use Rattle.daggy_json.specs.declared.error.ReadError.{ReadError}
 use Rattle.daggy_json.specs.declared.error.ReadError.TheVariants.{Orders}
 use Rattle.daggy_base.specs.Orders.{with_orders, AreOrders}
-use Rattle.daggy_json.specs.Reading.{Parts, parts_in, orders_in, IsLaidOut, IsRead, IsFilled, IsLinked, ReadsEach}
-use Rattle.daggy_json.specs.Reading.{IsWeight, IsEntryRead, AreSlots, IsOrdered, IsTested}
+use Rattle.daggy_json.specs.Reading.{Parts, parts_in, orders_in, IsLaidOut, IsReadTo, IsFilled, IsLinked, ReadsEach}
+use Rattle.daggy_json.specs.Reading.{IsWeight, IsEntryRead, AreSlots, IsOrdered}
 use Rattle.daggy_json.specs.Found.{EndsExist, IsNodesFault}
 use Rattle.daggy_json.proofs.TrimmedSlots.{slots_split}
 
 module _ {N E : Type 0} (limit : ℕ) (kind : Kind) (node_answers : Data → Option N → Type 0)
-    (edge_answers : Data → Option E → Type 0) (d : Data) where
-  module _ (p : Parts) (is : parts_in d ≡ Some p) where
-    on : (r : Result (Graph N E) ReadError) (fault : Option ReadError) → IsLaidOut limit kind p fault
-        → MatchOption fault (IsFilled limit kind node_answers edge_answers p r) (λ e. r ≡ Err e)
-        → IsRead limit kind node_answers edge_answers d r
-    on r fault laid next = rw is (fault, laid, next)
+    (edge_answers : Data → Option E → Type 0) (ends_as : Graph N E → Result (Graph N E) ReadError → Type 0) (d : Data)
+  where
+    module _ (p : Parts) (is : parts_in d ≡ Some p) where
+      on : (r : Result (Graph N E) ReadError) (fault : Option ReadError) → IsLaidOut limit kind p fault
+          → MatchOption fault (IsFilled limit kind node_answers edge_answers ends_as p r) (λ e. r ≡ Err e)
+          → IsReadTo limit kind node_answers edge_answers ends_as d r
+      on r fault laid next = rw is (fault, laid, next)
 
-    pub layout_fault : (e : ReadError)
-        → IsLaidOut limit kind p (Some e) → IsRead limit kind node_answers edge_answers d (Err e)
-    layout_fault e laid = on (Err e) (Some e) laid refl
+      pub layout_fault : (e : ReadError)
+          → IsLaidOut limit kind p (Some e) → IsReadTo limit kind node_answers edge_answers ends_as d (Err e)
+      layout_fault e laid = on (Err e) (Some e) laid refl
 
-    module _ (laid : IsLaidOut limit kind p None) where
-      pub weight_fault : (e : ReadError)
-          → ReadsEach (IsWeight node_answers) p.nodes (Err e) → IsRead limit kind node_answers edge_answers d (Err e)
-      weight_fault e h = on (Err e) None laid (Err e, h, refl)
+      module _ (laid : IsLaidOut limit kind p None) where
+        pub weight_fault : (e : ReadError)
+            → ReadsEach (IsWeight node_answers) p.nodes (Err e) → IsReadTo limit kind node_answers edge_answers ends_as d (Err e)
+        weight_fault e h = on (Err e) None laid (Err e, h, refl)
 
-      module _ (weights : List N) (read : ReadsEach (IsWeight node_answers) p.nodes (Ok weights))
-          {nodes : List (Option N)} (placed : AreSlots nodes p.holes weights) where
-        linked : (r : Result (Graph N E) ReadError) → IsLinked limit kind node_answers edge_answers p nodes r
-            → IsRead limit kind node_answers edge_answers d r
-        linked r h = on r None laid (Ok weights, read, (nodes, placed, h))
+        module _ (weights : List N) (read : ReadsEach (IsWeight node_answers) p.nodes (Ok weights))
+            {nodes : List (Option N)} (placed : AreSlots nodes p.holes weights) where
+          linked : (r : Result (Graph N E) ReadError) → IsLinked limit kind node_answers edge_answers ends_as p nodes r
+              → IsReadTo limit kind node_answers edge_answers ends_as d r
+          linked r h = on r None laid (Ok weights, read, (nodes, placed, h))
 
-        pub entry_fault : (e : ReadError) → ReadsEach (IsEntryRead kind nodes edge_answers) p.edges (Err e)
-            → IsRead limit kind node_answers edge_answers d (Err e)
-        entry_fault e h = linked (Err e) (Err e, h, refl)
+          pub entry_fault : (e : ReadError) → ReadsEach (IsEntryRead kind nodes edge_answers) p.edges (Err e)
+              → IsReadTo limit kind node_answers edge_answers ends_as d (Err e)
+          entry_fault e h = linked (Err e) (Err e, h, refl)
 
-        module _ (edges : List (Option (Edge E)))
-            (entries : ReadsEach (IsEntryRead kind nodes edge_answers) p.edges (Ok edges)) where
-          pub orders_fault : (e : ReadError) → IsOrdered (graph_of_slots nodes edges) p.orders (Err e)
-              → IsRead limit kind node_answers edge_answers d (Err e)
-          orders_fault e h = linked (Err e) (Ok edges, entries, (Err e, h, refl))
+          module _ (edges : List (Option (Edge E)))
+              (entries : ReadsEach (IsEntryRead kind nodes edge_answers) p.edges (Ok edges)) where
+            pub orders_fault : (e : ReadError) → IsOrdered (graph_of_slots nodes edges) p.orders (Err e)
+                → IsReadTo limit kind node_answers edge_answers ends_as d (Err e)
+            orders_fault e h = linked (Err e) (Ok edges, entries, (Err e, h, refl))
 
-          pub is_read : (g : Graph N E) → IsOrdered (graph_of_slots nodes edges) p.orders (Ok g)
-              → (r : Result (Graph N E) ReadError) → IsTested g r → IsRead limit kind node_answers edge_answers d r
-          is_read g h r t = linked r (Ok edges, entries, (Ok g, h, t))
+            pub is_read : (g : Graph N E) → IsOrdered (graph_of_slots nodes edges) p.orders (Ok g)
+                → (r : Result (Graph N E) ReadError) → ends_as g r → IsReadTo limit kind node_answers edge_answers ends_as d r
+            is_read g h r t = linked r (Ok edges, entries, (Ok g, h, t))
 
 -- ---- orders
 
@@ -104,13 +105,14 @@ ends_exist kind nodes answers (d ∷ ds) (y ∷ edges) h dir (suc e) x is =
 
 -- a fault up to the nodes
 pub nodes_fault : {N E : Type 0} (limit : ℕ) (kind : Kind) (node_answers : Data → Option N → Type 0)
-    (edge_answers : Data → Option E → Type 0) (d : Data) (p : Parts)
+    (edge_answers : Data → Option E → Type 0) (ends_as : Graph N E → Result (Graph N E) ReadError → Type 0) (d : Data)
+    (p : Parts)
     → parts_in d ≡ Some p → (e : ReadError) → IsNodesFault limit kind node_answers p e
-    → IsRead limit kind node_answers edge_answers d (Err e)
-nodes_fault limit kind node_answers edge_answers d p is e (inl laid) =
-    layout_fault limit kind node_answers edge_answers d p is e laid
-nodes_fault limit kind node_answers edge_answers d p is e (inr h) =
-    weight_fault limit kind node_answers edge_answers d p is h.0 e h.1
+    → IsReadTo limit kind node_answers edge_answers ends_as d (Err e)
+nodes_fault limit kind node_answers edge_answers ends_as d p is e (inl laid) =
+    layout_fault limit kind node_answers edge_answers ends_as d p is e laid
+nodes_fault limit kind node_answers edge_answers ends_as d p is e (inr h) =
+    weight_fault limit kind node_answers edge_answers ends_as d p is h.0 e h.1
 
 -- where no slot may be vacant, none is
 pub full_entries : {N E T : Type 0} (kind : Kind) (nodes : List (Option N)) (answers : Data → Option E → Type 0)

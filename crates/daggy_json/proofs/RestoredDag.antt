@@ -350,7 +350,7 @@ module _ {M F N E : Type 0} (limit : ℕ) (kind : Kind) (node_as : M → Data �
     Entry x k = IsEntry edge_as x k × CanBeRead kind nodes x
 
     linked : (r : Result (Graph N E) ReadError)
-        → IsLinked limit kind node_answers edge_answers part nodes r → IsReadAgain r
+        → IsLinked limit kind node_answers edge_answers IsTested part nodes r → IsReadAgain r
     linked r t = go t.0 (each_read Reads Entry left_edges doc.entries t.0 written t.1) t.2
       where
         written : AllZip Entry left_edges doc.entries
@@ -376,7 +376,7 @@ module _ {M F N E : Type 0} (limit : ℕ) (kind : Kind) (node_as : M → Data �
             rw next (refused.0, inr (found.0.weight, listed_there, found.2, found.3, found.4))
 
   abbrev Staged : Result (Graph N E) ReadError → Parts → Option ReadError → Type 0
-  Staged r p fault = MatchOption fault (IsFilled limit kind node_answers edge_answers p r) (λ e. r ≡ Err e)
+  Staged r p fault = MatchOption fault (IsFilled limit kind node_answers edge_answers IsTested p r) (λ e. r ≡ Err e)
 
   -- what was written of a dag is read as that dag, with what may be read of its weights
   pub read_again : (r : Result (Graph N E) ReadError)
@@ -393,7 +393,7 @@ module _ {M F N E : Type 0} (limit : ℕ) (kind : Kind) (node_as : M → Data �
           MatchOption-at_some (r ≡ Err Shape)
           (λ p. (fault : Option ReadError) × IsLaidOut limit kind p fault × Staged r p fault) part found read
 
-      filled : IsFilled limit kind node_answers edge_answers part r
+      filled : IsFilled limit kind node_answers edge_answers IsTested part r
       filled = subst (Staged r part) (laid_out staged.0 staged.1) staged.2
 
       go : (x : Result (List N) ReadError)
@@ -401,7 +401,7 @@ module _ {M F N E : Type 0} (limit : ℕ) (kind : Kind) (node_as : M → Data �
           (λ ws. AllZip (λ w y. ReadsThrough (IsWeight node_answers) node_as w (Ok y)) (node_weights g) ws)
           (λ e. (w : M) × Contains (node_weights g) w × ReadsThrough (IsWeight node_answers) node_as w (Err e))
           → MatchResult x (λ ws. (nodes : List (Option N)) × AreSlots nodes (holes_of g) ws
-          × IsLinked limit kind node_answers edge_answers part nodes r) (λ e. r ≡ Err e)
+          × IsLinked limit kind node_answers edge_answers IsTested part nodes r) (λ e. r ≡ Err e)
           → IsReadAgain r
       go (Ok ws) zip (nodes, slots, next) =
           linked nodes (copied_nodes weights_read 0 left nodes slots.vacant

@@ -173,6 +173,10 @@ IsOrdered g (Some d) (Ok h) =
 IsOrdered g (Some d) (Err e) =
     ((orders : List (List ℕ × List ℕ)) → orders_in d ≡ Some orders → ¬ AreOrders g orders) × (e ≡ Orders)
 
+-- the graph itself, whether or not it has cycles
+abbrev pub IsItself : {N E : Type 0} → Graph N E → Result (Graph N E) ReadError → Type 0
+IsItself g r = r ≡ Ok g
+
 -- the graph itself if it is acyclic, otherwise the fault `Cycle`
 abbrev pub IsTested : {N E : Type 0} → Graph N E → Result (Graph N E) ReadError → Type 0
 IsTested g (Ok h) = IsAcyclic g × (h ≡ g)
@@ -186,12 +190,12 @@ abbrev pub Then : {A B : Type 0}
 Then {A} first next r = (x : Result A ReadError) × first x × MatchResult x (λ a. next a r) (λ e. r ≡ Err e)
 
 module _ {N E : Type 0} (limit : ℕ) (kind : Kind) (node_answers : Data → Option N → Type 0)
-    (edge_answers : Data → Option E → Type 0) where
-  -- the edges between these nodes, the orders, and whether there is a cycle
+    (edge_answers : Data → Option E → Type 0) (ends_as : Graph N E → Result (Graph N E) ReadError → Type 0) where
+  -- the edges between these nodes, the orders, and what becomes of the graph
   abbrev pub IsLinked : Parts → List (Option N) → Result (Graph N E) ReadError → Type 0
   IsLinked p nodes =
       Then (ReadsEach (IsEntryRead kind nodes edge_answers) p.edges)
-      (λ edges. Then (IsOrdered (graph_of_slots nodes edges) p.orders) IsTested)
+      (λ edges. Then (IsOrdered (graph_of_slots nodes edges) p.orders) ends_as)
 
   -- the weights of the nodes in their slots, and then the rest
   abbrev pub IsFilled : Parts → Result (Graph N E) ReadError → Type 0
@@ -199,8 +203,18 @@ module _ {N E : Type 0} (limit : ℕ) (kind : Kind) (node_answers : Data → Opt
       Then (ReadsEach (IsWeight node_answers) p.nodes)
       (λ weights r. (nodes : List (Option N)) × AreSlots nodes p.holes weights × IsLinked p nodes r)
 
-  -- the value is read as this graph, or this is its first fault
-  abbrev pub IsRead : Data → Result (Graph N E) ReadError → Type 0
-  IsRead d r =
+  -- the value is read up to the last stage
+  abbrev pub IsReadTo : Data → Result (Graph N E) ReadError → Type 0
+  IsReadTo d r =
       MatchOption (parts_in d) (r ≡ Err Shape) (λ p.
       (fault : Option ReadError) × IsLaidOut limit kind p fault × MatchOption fault (IsFilled p r) (λ e. r ≡ Err e))
+
+-- the value is read as this graph, which may have cycles, or this is its first fault
+abbrev pub IsGraphRead : {N E : Type 0} → (limit : ℕ) (kind : Kind) (node_answers : Data → Option N → Type 0)
+    (edge_answers : Data → Option E → Type 0) → Data → Result (Graph N E) ReadError → Type 0
+IsGraphRead limit kind node_answers edge_answers = IsReadTo limit kind node_answers edge_answers IsItself
+
+-- the value is read as this graph, which is acyclic, or this is its first fault
+abbrev pub IsRead : {N E : Type 0} → (limit : ℕ) (kind : Kind) (node_answers : Data → Option N → Type 0)
+    (edge_answers : Data → Option E → Type 0) → Data → Result (Graph N E) ReadError → Type 0
+IsRead limit kind node_answers edge_answers = IsReadTo limit kind node_answers edge_answers IsTested

@@ -1,4 +1,4 @@
-//! Bytes on their way to a writer, gathered so that it is called for many of them at once.
+//! A buffer of bytes for a writer, so that the writer is called for many of them at once.
 ghost use Rattle.std.specs.Prelude.{◌≡◌, ◌↔◌, ◌+◌, ◌<◌, ◌≤◌, [], ◌∷◌, ◌++◌, length, decimal, cond, IsTrue};
 ghost use Rattle.std.specs.Bool.{OnTrue, OnFalse};
 ghost use Rattle.daggy_json.specs.declared.block.TheConstants.{CAPACITY, LONGEST};
@@ -100,7 +100,7 @@ impl Block {
         requires { length self.old + LONGEST ≤ CAPACITY }
         ensures { self.new ≡ self.old ++ (cond comma (44 ∷ []) [] ++ byte ∷ []) }
     {
-        // Where no comma is due, the byte is written over it.
+        // If no comma is due, the byte overwrites it.
         self.bytes[self.len] = b',';
         let at = self.len + usize::from(comma);
         self.bytes[at] = byte;
@@ -113,7 +113,7 @@ impl Block {
         requires { length self.old + LONGEST ≤ CAPACITY }
         ensures { self.new ≡ self.old ++ (cond comma (44 ∷ []) [] ++ decimal n) }
     {
-        // Where no comma is due, the first digit is written over it.
+        // If no comma is due, the first digit overwrites it.
         self.bytes[self.len] = b',';
         let end = self.len + usize::from(comma) + count_digits(n);
         write_digits(n, &mut self.bytes, end);

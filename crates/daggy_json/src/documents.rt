@@ -7,19 +7,20 @@ ghost use Rattle.daggy_base.specs.declared.kind.Kind.TheVariants.{Compact, Stabl
 ghost use Rattle.daggy_base.specs.WellFormed.{IsDag};
 ghost use Rattle.daggy_json.specs.Document.{IsDocumentOf};
 ghost use Rattle.daggy_json.specs.Weight.{WritesAs, ReadsAs};
-ghost use Rattle.daggy_json.specs.Reading.{IsRead};
+ghost use Rattle.daggy_json.specs.Reading.{IsGraphRead, IsRead};
 ghost use Rattle.daggy_json.specs.Restoring.{ReadsOnly, trimmed, IsCopyAs, ReadsTo};
 ghost use Rattle.daggy_json.specs.Restoring.{HasRefused, HasValues};
 ghost use Rattle.daggy_json.specs.Streaming.{HasDocument, HasFront, OrNull};
 ghost use Rattle.daggy_json.specs.declared.error.ReadError.TheVariants.{Memory, Weight};
 
 use crate::error::{ReadError, StreamError, WriteError};
-use crate::making::read;
+use crate::making::{read, read_graph};
 use crate::streaming::stream_document;
 use crate::text::TextWriter;
 use crate::writing::write_document;
 use daggy_base::index::IndexType;
 use daggy_base::read_store::ReadStore;
+use daggy_base::store::Store;
 use daggy_dag::acyclic::{Acyclic, Dag, StableDag};
 use serde_json::Value;
 use std::alloc::{AllocError, Global};
@@ -51,7 +52,7 @@ fn write<
 /// The document of a dag: an object with the weights of its nodes, its edges, and the orders of its
 /// lists.
 ///
-/// `fn_node` encodes the weight of a node, and `fn_edge` that of an edge.
+/// `fn_node` encodes the weight of a node, and `fn_edge` the weight of an edge.
 ///
 /// # Requires
 ///
@@ -65,6 +66,22 @@ fn write<
 /// # Complexity
 ///
 /// O(nodes + edges), plus the calls.
+///
+/// # Examples
+///
+/// ```
+/// let mut dag: Dag<u32, u32> = Dag::new(rt.alloc());
+/// let sow = dag.add_node(1)?;
+/// dag.add_child(sow, 90, 2)?;
+/// let value = dag_to_json(
+///     rt.alloc(),
+///     &dag,
+///     |n| Ok(Value::from(*n)),
+///     |e| Ok(Value::from(*e)),
+/// )?;
+/// let text = value.to_vec(rt.alloc())?;
+/// assert!(rt; text.starts_with(b"{\"edge_property\":\"directed\",\"edges\":[[0,1,90]],"));
+/// ```
 pub fn dag_to_json<
     N: Drop,
     E: Drop,
@@ -84,8 +101,8 @@ pub fn dag_to_json<
     write(alloc, dag, &fn_node, &fn_edge)
 }
 
-/// The document of a stable dag, as [`dag_to_json`] returns it. It also lists the vacant node
-/// slots, and has `null` for a vacant edge slot, both up to the greatest index in use.
+/// The document of a stable dag, in the format of [`dag_to_json`]. It also lists the vacant node
+/// slots, and has `null` for each vacant edge slot, both up to the greatest index in use.
 ///
 /// # Requires
 ///
@@ -136,11 +153,11 @@ pub fn stable_to_json<
     write(alloc, dag, &fn_node, &fn_edge)
 }
 
-/// Writes the document of a dag of either kind to a writer, as compact text: the bytes that
-/// [`dag_to_json`] and `Value::to_vec` make, without the value. It does not allocate, and does not
-/// flush the writer.
+/// Writes the document of a dag of either kind to a writer, as compact text: the same bytes that
+/// `Value::to_vec` returns for the value of [`dag_to_json`], without making that value. It does not
+/// allocate, and does not flush the writer.
 ///
-/// `fn_node` encodes the weight of a node, and `fn_edge` that of an edge.
+/// `fn_node` encodes the weight of a node, and `fn_edge` the weight of an edge.
 ///
 /// # Requires
 ///
@@ -188,7 +205,7 @@ pub fn write_json<
     ensures fault { IfErr result (λ e. ¬ (e ≡ StreamError.Memory)
         → HasFront (WritesAs F.Fn fn_node) (WritesAs G.Fn fn_edge)
         dag.now.graph (W.contents writer.old) (W.contents writer.new)) }
-    // After the failure null may stand for a weight.
+    // After the failure `null` may be written for a weight.
     ensures memory { result ≡ Err StreamError.Memory
         → HasFront (OrNull (WritesAs F.Fn fn_node)) (OrNull (WritesAs G.Fn fn_edge))
         dag.now.graph (W.contents writer.old) (W.contents writer.new) }
@@ -268,8 +285,8 @@ pub fn dag_from_json<
 
 /// Reads a stable dag from a value, as [`dag_from_json`] reads a dag. Node slots are vacant at the
 /// holes, and edge slots at `null`; the highest vacant slot is reused first. So a written document
-/// restores the dag but for the order of its vacant slots, and those after the greatest index in
-/// use.
+/// restores the dag, except for the order of its vacant slots and for vacant slots after the
+/// greatest index in use.
 ///
 /// # Requires
 ///
@@ -283,6 +300,25 @@ pub fn dag_from_json<
 /// # Complexity
 ///
 /// O(slots), plus the calls.
+///
+/// # Examples
+///
+/// ```
+/// let mut dag: StableDag<u32, u32> = StableDag::new(rt.alloc());
+/// let plan = dag.add_node(1)?;
+/// let sow = dag.add_node(2)?;
+/// assert!(rt; dag.remove_node(plan) == Some(1));
+/// let value = stable_to_json(
+///     rt.alloc(),
+///     &dag,
+///     |n| Ok(Value::from(*n)),
+///     |e| Ok(Value::from(*e)),
+/// )?;
+/// let weight = |value: &Value| Ok(value.as_u64().and_then(|w| u32::try_from(w).ok()));
+/// let read: StableDag<u32, u32> = stable_from_json(rt.alloc(), &value, weight, weight)?;
+/// assert!(rt; read.node_weight(sow) == Some(&2));
+/// assert!(rt; !read.contains_node(plan));
+/// ```
 pub fn stable_from_json<
     N: Drop,
     E: Drop,
@@ -314,4 +350,54 @@ pub fn stable_from_json<
         ⊎ (e ≡ Weight) × HasRefused (ReadsAs F.Fn fn_node) (ReadsAs G.Fn fn_edge) g) }
 {
     read(alloc, value, &fn_node, &fn_edge)
+}
+
+/// Reads a graph, which may have cycles, from a value in the format of [`dag_to_json`]. If
+/// [`dag_from_json`] or [`stable_from_json`] returns [`ReadError::Cycle`], this graph has the
+/// cycle, and `find_cycle` finds it. In a `StableDiGraph`, node slots are vacant at the holes, and
+/// edge slots at `null`. A `DiGraph` has no holes.
+///
+/// # Requires
+///
+/// - `nodes`: `fn_node` may be called with any argument, any number of times.
+/// - `edges`: `fn_edge` may be called with any argument, any number of times.
+///
+/// # Errors
+///
+/// Returns the first fault of the value, or `Memory` if an allocation fails. A cycle is not a fault.
+///
+/// # Complexity
+///
+/// O(slots), plus the calls.
+///
+/// # Examples
+///
+/// ```
+/// let text = r#"{"edge_property": "directed", "node_holes": [], "nodes": [1, 2],
+///     "edges": [[0, 1, 5], [1, 0, 6]]}"#;
+/// let value = Value::from_str(rt.alloc(), text)?;
+/// let number = |value: &Value| Ok(value.as_u64());
+/// let read: Result<Dag<u64, u64>, ReadError> = dag_from_json(rt.alloc(), &value, number, number);
+/// assert!(rt; matches!(read, Err(ReadError::Cycle)));
+/// let mut graph: DiGraph<u64, u64> = graph_from_json(rt.alloc(), &value, number, number)?;
+/// assert!(rt; find_cycle(rt.alloc(), &mut graph)?.is_some_and(|nodes| nodes.len() == 2));
+/// ```
+pub fn graph_from_json<
+    N: Drop,
+    E: Drop,
+    Ix: IndexType,
+    S: Store<Ix, NodeWeight = N, EdgeWeight = E>,
+    F: Fn(&Value) -> Result<Option<N>, AllocError> + Drop,
+    G: Fn(&Value) -> Result<Option<E>, AllocError> + Drop,
+>(alloc: Global, value: &Value, fn_node: F, fn_edge: G) -> Result<S, ReadError>
+    requires nodes { F.IsAlwaysCallable fn_node }
+    requires edges { G.IsAlwaysCallable fn_edge }
+    ensures ok { IfOk result (λ s.
+        IsGraphRead Ix.greatest S.KIND (ReadsAs F.Fn fn_node) (ReadsAs G.Fn fn_edge)
+        (view value.now) (Ok (S.graph s))) }
+    ensures err { IfErr result
+        (λ e. (e ≡ Memory) ⊎ IsGraphRead {N = N} {E = E} Ix.greatest S.KIND (ReadsAs F.Fn fn_node)
+        (ReadsAs G.Fn fn_edge) (view value.now) (Err e)) }
+{
+    read_graph(alloc, value, &fn_node, &fn_edge)
 }

@@ -1,4 +1,4 @@
-//! Why a value was not written, or not read.
+//! Errors of writing and reading documents.
 ghost use Rattle.std.specs.Prelude.{◌≡◌};
 ghost use Rattle.daggy_json.specs.declared.error.WriteError.TheVariants.{Memory};
 ghost use Rattle.daggy_json.specs.declared.error.ReadError.TheVariants.{Memory as ReadMemory};
@@ -8,6 +8,15 @@ use std::io;
 use thiserror::Error;
 
 /// Writing a document failed.
+///
+/// # Examples
+///
+/// ```
+/// let mut dag: Dag<u32, u32> = Dag::new(rt.alloc());
+/// dag.add_node(1)?;
+/// let result = dag_to_json(rt.alloc(), &dag, |_| Err(AllocError), |e| Ok(Value::from(*e)));
+/// assert!(rt; result.err() == Some(WriteError::Memory));
+/// ```
 #[derive(Clone, Copy, Debug, Drop, Eq, Error, PartialEq)]
 pub enum WriteError {
     /// Out of memory, here or in a function that encodes a weight.
@@ -16,6 +25,16 @@ pub enum WriteError {
 }
 
 /// Writing a document to a writer failed.
+///
+/// # Examples
+///
+/// ```
+/// let mut dag: Dag<u32, u32> = Dag::new(rt.alloc());
+/// dag.add_node(1)?;
+/// let mut text = Vec::new(rt.alloc());
+/// let result = write_json(&dag, &mut text, |_| Err(AllocError), |e| Ok(Value::from(*e)));
+/// assert!(rt; matches!(result, Err(StreamError::Memory)));
+/// ```
 #[derive(Debug, Drop, Error)]
 pub enum StreamError {
     /// Out of memory in a function that encodes a weight.
@@ -28,6 +47,16 @@ pub enum StreamError {
 
 /// Reading a document failed. The error is the first fault, in the order of the variants; edge
 /// entries are checked one by one, each for its shape, its endpoints and its weight.
+///
+/// # Examples
+///
+/// ```
+/// let weight = |value: &Value| Ok(value.as_u64().and_then(|w| u32::try_from(w).ok()));
+/// let result: Result<Dag<u32, u32>, ReadError> =
+///     dag_from_json(rt.alloc(), &Value::Null, weight, weight);
+/// // It is no object.
+/// assert!(rt; result.err() == Some(ReadError::Shape));
+/// ```
 #[derive(Clone, Copy, Debug, Drop, Eq, Error, PartialEq)]
 pub enum ReadError {
     /// A value or a member has the wrong type. The value must be an object, `nodes` and `edges`

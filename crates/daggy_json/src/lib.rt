@@ -1,5 +1,5 @@
-//! Dags as JSON values: what is written of a store, what a value is read as before a dag is made of
-//! it, and the dags themselves.
+//! Dags as JSON values: writing a store, reading a value into slots before a dag is made of them,
+//! and the methods for dags.
 #![tactic(auto)]
 
 mod block;

@@ -1,4 +1,4 @@
-//! Building the dag of a valid document.
+//! Building the graph or the dag of a valid document.
 ghost use Rattle.std.specs.Prelude.{◌≡◌, ◌≤◌, ◌⊎◌, [], Ok, Err, map, length, IfOk, IfErr};
 ghost use Rattle.std.specs.Prelude.{IfSome};
 ghost use Rattle.std.specs.Option.{option_map};
@@ -7,7 +7,7 @@ ghost use Rattle.daggy_base.specs.FromSlots.{graph_of_slots, edges_by};
 ghost use Rattle.daggy_base.specs.Orders.{AreOrders, numbers_of};
 ghost use Rattle.daggy_base.specs.declared.kind.Kind.TheVariants.{Compact};
 ghost use Rattle.daggy_json.specs.Document.{vacant_from};
-ghost use Rattle.daggy_json.specs.Reading.{IsRead, IsTested};
+ghost use Rattle.daggy_json.specs.Reading.{IsGraphRead, IsRead, IsTested};
 ghost use Rattle.daggy_json.specs.Found.{ordered, orders_by, EndsExist};
 ghost use Rattle.daggy_json.specs.Weight.{ReadsAs};
 ghost use Rattle.daggy_json.specs.declared.error.ReadError.TheVariants.{Memory};
@@ -57,6 +57,57 @@ fn make<N: Drop, E: Drop, Ix: IndexType, S: Store<Ix, NodeWeight = N, EdgeWeight
     };
     dag.set_orders(rows.as_slice());
     Ok(dag)
+}
+
+// The graph of what was gathered.
+fn make_graph<N: Drop, E: Drop, Ix: IndexType, S: Store<Ix, NodeWeight = N, EdgeWeight = E>>(
+    alloc: Global,
+    found: Gathered<N, E, Ix>,
+) -> Result<S, AllocError>
+    requires few_nodes { length found.nodes.items ≤ Ix.greatest }
+    requires few_edges { length found.edges.items ≤ Ix.greatest }
+    requires ends { EndsExist found.nodes.items (edges_by Ix.number found.edges.items) }
+    requires full_nodes { S.KIND ≡ Compact → vacant_from 0 found.nodes.items ≡ [] }
+    requires full_edges { S.KIND ≡ Compact → vacant_from 0 found.edges.items ≡ [] }
+    requires orders { IfSome found.orders (λ v.
+        AreOrders (graph_of_slots found.nodes.items (edges_by Ix.number found.edges.items))
+        (map (numbers_of Ix.number) v.items)) }
+    ensures ok { IfOk result (λ s.
+        S.graph s ≡ ordered (graph_of_slots found.nodes.items (edges_by Ix.number found.edges.items))
+        (orders_by Ix.number found.orders)) }
+{
+    let Gathered {
+        nodes,
+        edges,
+        orders,
+    } = found;
+    let mut graph = S::from_slots(alloc, nodes, edges)?;
+    let Some(rows) = orders else {
+        return Ok(graph);
+    };
+    graph.set_orders(rows.as_slice());
+    Ok(graph)
+}
+
+// The graph that the value is read as.
+pub(crate) fn read_graph<
+    N: Drop,
+    E: Drop,
+    Ix: IndexType,
+    S: Store<Ix, NodeWeight = N, EdgeWeight = E>,
+    F: Fn(&Value) -> Result<Option<N>, AllocError>,
+    G: Fn(&Value) -> Result<Option<E>, AllocError>,
+>(alloc: Global, value: &Value, fn_node: &F, fn_edge: &G) -> Result<S, ReadError>
+    requires nodes { F.IsAlwaysCallable fn_node.now }
+    requires edges { G.IsAlwaysCallable fn_edge.now }
+    ensures ok { IfOk result (λ s.
+        IsGraphRead Ix.greatest S.KIND (ReadsAs F.Fn fn_node.now) (ReadsAs G.Fn fn_edge.now)
+        (view value.now) (Ok (S.graph s))) }
+    ensures err { IfErr result
+        (λ e. (e ≡ Memory) ⊎ IsGraphRead {N = N} {E = E} Ix.greatest S.KIND
+        (ReadsAs F.Fn fn_node.now) (ReadsAs G.Fn fn_edge.now) (view value.now) (Err e)) }
+{
+    Ok(make_graph(alloc, gather(alloc, value, S::KIND, fn_node, fn_edge)?)?)
 }
 
 // The dag that the value is read as.

@@ -1,4 +1,4 @@
-//! What a value is read as.
+//! Reading a value.
 mod entries;
 pub mod gathering;
 mod layout;

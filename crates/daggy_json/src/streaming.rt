@@ -18,7 +18,7 @@ use serde_json::Value;
 use std::alloc::AllocError;
 use std::io::Write;
 
-/// The number of nodes whose lists are read side by side.
+/// The number of nodes whose lists are prefetched together.
 const AHEAD: usize = 32;
 
 // The entry of an edge slot.
@@ -146,8 +146,7 @@ fn stream_row<W: Write, Ix: IndexType, S: ReadStore<Ix>>(
     out.token(Token::EndArray);
 }
 
-// Reads ahead the lists of that direction of the nodes from `from` up to `to`. The answer is always
-// true.
+// Prefetches the lists in direction `dir` of the nodes from `from` up to `to`. Always returns true.
 fn touch_side<Ix: IndexType, S: ReadStore<Ix>>(
     store: &S,
     from: usize,
@@ -166,7 +165,7 @@ fn touch_side<Ix: IndexType, S: ReadStore<Ix>>(
     touch_lists(store, dir, &mut cursors)
 }
 
-// Reads ahead both lists of the nodes from `from` up to `to`. The answer is always true.
+// Prefetches both lists of the nodes from `from` up to `to`. Always returns true.
 fn touch_nodes<Ix: IndexType, S: ReadStore<Ix>>(store: &S, from: usize, to: usize) -> bool
     requires { to ≤ Ix.greatest }
     ensures { IsTrue result }

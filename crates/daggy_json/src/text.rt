@@ -1,4 +1,4 @@
-//! JSON text on its way to a writer, token by token.
+//! Writing JSON text to a writer, token by token.
 ghost use Rattle.std.specs.Prelude.{ℕ, List, Option, ◌≡◌, ◌<◌, ◌∷◌, ◌++◌, ◌+◌, ◌≤◌, [], None, Some, false, true, cond, length, MatchResult, IfErr, Err};
 ghost use Rattle.std.specs.Char.{digit_char};
 ghost use Rattle.std.specs.Io.KnownBytes.{Appends};
@@ -204,7 +204,7 @@ impl<'a, W: Write> TextWriter<'a, W> {
         self.put_byte(b'"');
     }
 
-    // The comma before what begins a value or a member, if a value came before it.
+    // Writes the comma before a value or a member, if a value came before it.
     #[inline(always)]
     fn put_comma(&mut self)
         ensures { Puts W.contents self.old self.new (cond self.old.after_value (44 ∷ []) []) }
@@ -261,7 +261,7 @@ impl<'a, W: Write> TextWriter<'a, W> {
         self.after_value = false;
     }
 
-    /// Writes a number that is not negative, after a comma if it needs one.
+    /// Writes a non-negative number, after a comma if it needs one.
     #[inline]
     pub(crate) fn unsigned(&mut self, n: u64)
         ensures { Writes W.contents self.old self.new (AreTokensOf (whole n)) }
@@ -279,7 +279,7 @@ impl<'a, W: Write> TextWriter<'a, W> {
         self.unsigned(n as u64);
     }
 
-    /// Ends the text here, since memory ran out.
+    /// Ends the text here, because an allocation failed.
     pub(crate) fn fail(&mut self)
         ensures failed { HasFailed self.new }
         ensures passes { Passes W.contents self.old self.new [] }

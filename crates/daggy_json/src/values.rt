@@ -93,7 +93,7 @@ pub(crate) fn write_weight<W: Write>(
     ensures { Writes W.contents out.old out.new (AreTokensOfWeight encoded (HasFailed out.new)) }
 {
     match encoded {
-        // The case of most weights. It is inlined, so no value has to be made.
+        // The most frequent kind of weight. It is inlined, so no value has to be made.
         Ok(Value::Number(number)) => write_number(&number, out),
         Ok(value) => write_value(&value, out),
         Err(_) => {

@@ -4,8 +4,10 @@
 //! whose ends a longer path joins, and writes the document of the reduced dag.
 #![tactic(auto)]
 
+mod cycle;
 mod document;
 
+use crate::cycle::or_cycle;
 use crate::document::{read, read_stable, write_reduced};
 use anyhow::{Context, Result};
 use clap::{Arg, ArgAction, Command};
@@ -50,10 +52,13 @@ fn bytes_of<R: Read + Drop>(alloc: Global, mut input: R) -> Result<Vec<u8>> {
 fn reduce(rt: &(impl Print + AllocGlobal), bytes: &[u8], stable: bool) -> Result<()> {
     let document = Value::from_slice(rt.alloc(), bytes)?;
     let mut out = BufWriter::new(rt.alloc(), io::writer(rt))?;
+    let alloc = rt.alloc();
     if stable {
-        write_reduced(read_stable(rt.alloc(), &document)?, &mut out)?;
+        let read = read_stable(alloc, &document);
+        write_reduced(or_cycle(alloc, &document, read)?, &mut out)?;
     } else {
-        write_reduced(read(rt.alloc(), &document)?, &mut out)?;
+        let read = read(alloc, &document);
+        write_reduced(or_cycle(alloc, &document, read)?, &mut out)?;
     }
     writeln!(out)?;
     out.flush()?;

@@ -8,7 +8,7 @@ ghost use Rattle.daggy_base.specs.FromSlots.{graph_of_slots, edges_by};
 ghost use Rattle.daggy_base.specs.Orders.{AreOrders, numbers_of};
 ghost use Rattle.daggy_base.specs.declared.kind.Kind.TheVariants.{Compact};
 ghost use Rattle.daggy_json.specs.Document.{vacant_from};
-ghost use Rattle.daggy_json.specs.Reading.{IsOrdered, IsRead, IsTested};
+ghost use Rattle.daggy_json.specs.Reading.{IsOrdered, IsGraphRead, IsRead, IsTested};
 ghost use Rattle.daggy_json.specs.Found.{ordered, orders_by, EndsExist, parts_of, AreNodesRead};
 ghost use Rattle.daggy_json.specs.Found.{IsNodesFault};
 ghost use Rattle.daggy_json.specs.Weight.{ReadsAs};
@@ -27,7 +27,7 @@ use daggy_base::kind::Kind;
 use serde_json::Value;
 use std::alloc::{AllocError, Global};
 
-// The orders of the lists of the graph of these slots, if the document has some.
+// The orders of the lists of the graph with these slots, if the document has any.
 fn read_orders<N, E, Ix: IndexType>(
     alloc: Global,
     orders: Option<&Value>,
@@ -60,14 +60,14 @@ fn read_orders<N, E, Ix: IndexType>(
     Ok(Some(rows))
 }
 
-/// The slots of a valid document, and its orders if it has some; cycles are not checked yet.
+/// The slots of a valid document, and its orders if it has any. Not yet checked for cycles.
 #[derive(Drop)]
 pub struct Gathered<N, E, Ix> {
     /// The weight in each slot of a node.
     pub nodes: Vec<Option<N>>,
     /// The ends and the weight in each slot of an edge.
     pub edges: Vec<Slot<E, Ix>>,
-    /// For each node that exists the edges that leave it and those that enter it, in their order.
+    /// For each existing node, the edges that leave it and the edges that enter it, in order.
     pub orders: Option<Vec<Row<Ix>>>,
 }
 
@@ -92,8 +92,8 @@ fn gather_nodes<N: Drop, Ix: IndexType, F: Fn(&Value) -> Result<Option<N>, Alloc
     Ok(place_weights(alloc, weights, &parts.holes)?)
 }
 
-/// The slots and the orders of the document that a value is read as, or its first fault. Cycles are
-/// not checked. Slots may be vacant in the stable kind.
+/// Reads the slots and the orders of a document, or returns its first fault. Does not check for
+/// cycles. Slots may be vacant in the stable kind.
 pub fn gather<
     N: Drop,
     E: Drop,
@@ -114,6 +114,10 @@ pub fn gather<
         (orders_by Ix.number s.orders)) r
         → IsRead Ix.greatest kind (ReadsAs F.Fn fn_node.now) (ReadsAs G.Fn fn_edge.now)
         (view value.now) r) }
+    ensures graph { IfOk result (λ s.
+        IsGraphRead Ix.greatest kind (ReadsAs F.Fn fn_node.now) (ReadsAs G.Fn fn_edge.now)
+        (view value.now) (Ok (ordered (graph_of_slots s.nodes.items (edges_by Ix.number s.edges.items))
+        (orders_by Ix.number s.orders)))) }
     ensures few_nodes { IfOk result (λ s. length s.nodes.items ≤ Ix.greatest) }
     ensures few_edges { IfOk result (λ s. length s.edges.items ≤ Ix.greatest) }
     ensures ends { IfOk result (λ s. EndsExist s.nodes.items (edges_by Ix.number s.edges.items)) }
@@ -125,6 +129,9 @@ pub fn gather<
     ensures err { IfErr result
         (λ e. (e ≡ Memory) ⊎ IsRead {N = N} {E = E} Ix.greatest kind (ReadsAs F.Fn fn_node.now)
         (ReadsAs G.Fn fn_edge.now) (view value.now) (Err e)) }
+    ensures graph_err { IfErr result
+        (λ e. (e ≡ Memory) ⊎ IsGraphRead {N = N} {E = E} Ix.greatest kind
+        (ReadsAs F.Fn fn_node.now) (ReadsAs G.Fn fn_edge.now) (view value.now) (Err e)) }
 {
     let parts = read_parts(alloc, value)?;
     let nodes = gather_nodes::<N, Ix, F>(alloc, &parts, kind, fn_node)?;

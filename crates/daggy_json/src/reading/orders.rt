@@ -25,7 +25,7 @@ fn find_index<Ix: IndexType>(value: &Value, bound: usize) -> Option<EdgeIndex<Ix
     }
 }
 
-// A list of indices of edge slots, if it is one.
+// A list of indices of edge slots, if the value is such a list.
 fn read_list<Ix: IndexType>(
     alloc: Global,
     value: &Value,
@@ -49,7 +49,7 @@ fn read_list<Ix: IndexType>(
     Ok(Some(indices))
 }
 
-// The two lists of a node, if they are two.
+// The two lists of a node, if there are two.
 fn read_row<Ix: IndexType>(
     alloc: Global,
     value: &Value,
@@ -75,7 +75,7 @@ fn read_row<Ix: IndexType>(
     Ok(Some((out_list, in_list)))
 }
 
-// The lists of the nodes, if they are such lists.
+// The lists of the nodes, if the values are such lists.
 pub(super) fn read_rows<Ix: IndexType>(
     alloc: Global,
     value: &Value,

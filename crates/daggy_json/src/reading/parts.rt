@@ -12,7 +12,7 @@ use crate::error::ReadError;
 use serde_json::Value;
 use std::alloc::{AllocError, Global};
 
-// The parts of a document. It borrows what was found.
+// The parts of a document, borrowed from its value.
 #[derive(Drop)]
 pub(super) struct Parts<'v> {
     pub(super) nodes: &'v Vec<Value>,
@@ -44,7 +44,7 @@ fn read_numbers(alloc: Global, list: &Vec<Value>) -> Result<Option<Vec<usize>>, 
     Ok(Some(numbers))
 }
 
-// The vacant slots of nodes. There is none without the key.
+// The vacant slots of nodes. None without the key.
 fn read_holes(alloc: Global, value: &Value) -> Result<Option<Vec<usize>>, AllocError>
     ensures { IfOk result (λ o.
         option_map (λ v. v.items) o ≡ holes_in (get (codes "node_holes") (view value.now))) }

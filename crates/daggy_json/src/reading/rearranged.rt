@@ -13,7 +13,7 @@ use std::alloc::{AllocError, Global};
 /// A slot of an edge: its ends and its weight, if it is not vacant.
 pub type Slot<E, Ix> = Option<(NodeIndex<Ix>, NodeIndex<Ix>, E)>;
 
-// Whether the slot holds an edge that has this node as its end of that direction.
+// Whether the slot holds an edge whose endpoint in direction `dir` is this node.
 fn is_at<E, Ix: IndexType>(edges: &Vec<Slot<E, Ix>>, e: usize, n: usize, dir: Direction) -> bool
     ensures { result ≡ has_end dir (edges_by Ix.number edges.now.items) n e }
 {

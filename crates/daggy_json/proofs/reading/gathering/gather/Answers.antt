@@ -1,10 +1,11 @@
-use Rattle.std.proofs.Common.{◌≡◌, vec_len, length, inl, inr, ◌∙◌, arith, rules}
+use Rattle.std.proofs.Common.{◌≡◌, vec_len, length, inl, inr, refl, ◌∙◌, arith, rules}
 use Rattle.std.specs.Option.{option_map}
 use Rattle.std.proofs.lemmas.Slice.Zip.{AllZip-long}
 use Rattle.std.proofs.lemmas.List.{length-map}
 use Rattle.std.proofs.lemmas.Result.{err_from_is_err_and}
 use Rattle.serde_json.specs.View.{view}
 use Rattle.daggy_json.specs.Found.{edge_of}
+use Rattle.daggy_json.specs.Reading.{IsItself, IsTested}
 use Rattle.daggy_json.specs.Weight.{ReadsAs}
 use Rattle.daggy_json.proofs.ComposedStages.{nodes_fault, entry_fault, orders_fault, is_read, placed_long}
 use Rattle.daggy_json.proofs.ComposedStages.{ends_exist}
@@ -19,7 +20,18 @@ returns-in_err-nodes-clause-err g c =
       | inl h ↦ inl h
       | inr h ↦
           inr (nodes_fault g.Ix.IndexType.greatest c.args.kind (ReadsAs g.F.Fn c.args.fn_node.now)
-          (ReadsAs g.G.Fn c.args.fn_edge.now) (view c.args.value.now) _ c.in_ok-parts.ensures.ok _ h)
+          (ReadsAs g.G.Fn c.args.fn_edge.now) IsTested (view c.args.value.now) _ c.in_ok-parts.ensures.ok _ h)
+    ]
+
+pub returns-in_err-nodes-clause-graph_err : goal.returns-in_err-nodes-clause-graph_err
+returns-in_err-nodes-clause-graph_err g c =
+    let p = err_from_is_err_and c.from_residual-in_err-nodes.result c.from_residual-in_err-nodes.ensures.1 in
+    rw (p.1, p.2)
+    elim c.in_err-nodes.ensures.err [
+      | inl h ↦ inl h
+      | inr h ↦
+          inr (nodes_fault g.Ix.IndexType.greatest c.args.kind (ReadsAs g.F.Fn c.args.fn_node.now)
+          (ReadsAs g.G.Fn c.args.fn_edge.now) IsItself (view c.args.value.now) _ c.in_ok-parts.ensures.ok _ h)
     ]
 
 pub read_entries-requires-clause-few : goal.read_entries-requires-clause-few
@@ -37,7 +49,20 @@ returns-in_err-edges-clause-err g c =
       | inl h ↦ inl h
       | inr h ↦
           inr (entry_fault g.Ix.IndexType.greatest c.args.kind (ReadsAs g.F.Fn c.args.fn_node.now)
-          (ReadsAs g.G.Fn c.args.fn_edge.now) (view c.args.value.now) _ c.in_ok-parts.ensures.ok n.0 n.1.0 n.1.1
+          (ReadsAs g.G.Fn c.args.fn_edge.now) IsTested (view c.args.value.now) _ c.in_ok-parts.ensures.ok n.0 n.1.0 n.1.1
+          n.1.2 _ h)
+    ]
+
+pub returns-in_err-edges-clause-graph_err : goal.returns-in_err-edges-clause-graph_err
+returns-in_err-edges-clause-graph_err g c =
+    let n = c.in_ok-nodes.ensures.ok in
+    let p = err_from_is_err_and c.from_residual-in_err-edges.result c.from_residual-in_err-edges.ensures.1 in
+    rw (p.1, p.2)
+    elim c.in_err-edges.ensures.err [
+      | inl h ↦ inl h
+      | inr h ↦
+          inr (entry_fault g.Ix.IndexType.greatest c.args.kind (ReadsAs g.F.Fn c.args.fn_node.now)
+          (ReadsAs g.G.Fn c.args.fn_edge.now) IsItself (view c.args.value.now) _ c.in_ok-parts.ensures.ok n.0 n.1.0 n.1.1
           n.1.2 _ h)
     ]
 
@@ -62,8 +87,15 @@ returns-clause-ok g c =
     let n = c.in_ok-nodes.ensures.ok in
     λ r t.
     is_read g.Ix.IndexType.greatest c.args.kind (ReadsAs g.F.Fn c.args.fn_node.now)
-    (ReadsAs g.G.Fn c.args.fn_edge.now) (view c.args.value.now) _ c.in_ok-parts.ensures.ok n.0 n.1.0 n.1.1 n.1.2 _
+    (ReadsAs g.G.Fn c.args.fn_edge.now) IsTested (view c.args.value.now) _ c.in_ok-parts.ensures.ok n.0 n.1.0 n.1.1 n.1.2 _
     c.in_ok-edges.ensures.ok _ c.in_ok-orders.ensures.ok r t
+
+pub returns-clause-graph : goal.returns-clause-graph
+returns-clause-graph g c =
+    let n = c.in_ok-nodes.ensures.ok in
+    is_read g.Ix.IndexType.greatest c.args.kind (ReadsAs g.F.Fn c.args.fn_node.now)
+    (ReadsAs g.G.Fn c.args.fn_edge.now) IsItself (view c.args.value.now) _ c.in_ok-parts.ensures.ok n.0 n.1.0 n.1.1
+    n.1.2 _ c.in_ok-edges.ensures.ok _ c.in_ok-orders.ensures.ok _ refl
 
 pub returns-in_err-orders-clause-err : goal.returns-in_err-orders-clause-err
 returns-in_err-orders-clause-err g c =
@@ -74,7 +106,20 @@ returns-in_err-orders-clause-err g c =
       | inl h ↦ inl h
       | inr h ↦
           inr (orders_fault g.Ix.IndexType.greatest c.args.kind (ReadsAs g.F.Fn c.args.fn_node.now)
-          (ReadsAs g.G.Fn c.args.fn_edge.now) (view c.args.value.now) _ c.in_ok-parts.ensures.ok n.0 n.1.0 n.1.1 n.1.2
+          (ReadsAs g.G.Fn c.args.fn_edge.now) IsTested (view c.args.value.now) _ c.in_ok-parts.ensures.ok n.0 n.1.0 n.1.1 n.1.2
+          _ c.in_ok-edges.ensures.ok _ h)
+    ]
+
+pub returns-in_err-orders-clause-graph_err : goal.returns-in_err-orders-clause-graph_err
+returns-in_err-orders-clause-graph_err g c =
+    let n = c.in_ok-nodes.ensures.ok in
+    let p = err_from_is_err_and c.from_residual-in_err-orders.result c.from_residual-in_err-orders.ensures.1 in
+    rw (p.1, p.2)
+    elim c.in_err-orders.ensures.err [
+      | inl h ↦ inl h
+      | inr h ↦
+          inr (orders_fault g.Ix.IndexType.greatest c.args.kind (ReadsAs g.F.Fn c.args.fn_node.now)
+          (ReadsAs g.G.Fn c.args.fn_edge.now) IsItself (view c.args.value.now) _ c.in_ok-parts.ensures.ok n.0 n.1.0 n.1.1 n.1.2
           _ c.in_ok-edges.ensures.ok _ h)
     ]
 
