@@ -21,6 +21,7 @@ mod reducing;
 mod removing;
 mod retaining;
 mod rewriting;
+mod script;
 mod searching;
 mod slot_reuse;
 mod support;

@@ -3,7 +3,7 @@ use super::closing::{close_chain, close_path};
 use super::kinds::{Compact, Kind, Line, Made, Plain, Stable, Three, put_second};
 use super::retaining::{keep_edges, keep_nodes};
 use super::support::{edge, holds, made, node, same};
-use super::table::{Answer, Call, Row, play};
+use super::table::play;
 use super::trying::{try_all, try_full};
 use super::visiting::{keep_pairs, read, reset, visit, write};
 use daggy_base::index::Direction;
@@ -12,29 +12,26 @@ use std::alloc::Global;
 use std::process::Abort;
 
 /// The nodes 0, 1 and 2, and an edge from each to those after it.
-pub const TRIANGLE: [Row<'static>; 4] = [
-    (Call::Node(10), Answer::Node(0)),
-    (Call::Node(11), Answer::Node(1)),
-    (Call::Node(12), Answer::Node(2)),
-    (
-        Call::Edges(&[(0, 1, 100), (0, 2, 101), (1, 2, 102)]),
-        Answer::Edges(&[0, 1, 2]),
-    ),
-];
+pub const TRIANGLE: &str = "
+    node 10 = node 0
+    node 11 = node 1
+    node 12 = node 2
+    edges 0 1 100, 0 2 101, 1 2 102 = edges 0 1 2
+";
 
 /// Something that is done with a dag, and what comes of it.
 #[derive(Clone, Copy)]
 pub enum Act<'a> {
     /// A table is played.
-    Rows(&'a [Row<'a>]),
+    Rows(&'a str),
     /// A table is played over a copy.
-    Copy(&'a [Row<'a>]),
+    Copy(&'a str),
     /// Each weight is raised by its index, with these calls, and a table is played over that.
-    Map(u64, &'a [Row<'a>]),
+    Map(u64, &'a str),
     /// The nodes of one weight are left out, with these calls, and a table is played over the rest.
-    Part(u32, u64, &'a [Row<'a>]),
+    Part(u32, u64, &'a str),
     /// A table is played over another dag, which is made with room for nodes and edges.
-    Capacity(usize, usize, &'a [Row<'a>]),
+    Capacity(usize, usize, &'a str),
     /// There is no memory for that many nodes and edges.
     NoCapacity(usize, usize),
     /// The weights of two nodes are raised, of which the first was this.
@@ -65,7 +62,7 @@ pub enum Act<'a> {
     Update(u64, u64),
     /// Closures read the weights from tables: that of a map, of a part with all nodes and edges, and
     /// of an update. A table of calls is played over each of the three.
-    Tables(&'a [u32], &'a [u32], &'a [Row<'a>]),
+    Tables(&'a [u32], &'a [u32], &'a str),
     /// The weights of the second node and the second edge are written as they are lent. Before, the
     /// first three of each were these.
     PutSecond(u32, u32, Three, Three),
@@ -83,12 +80,12 @@ pub enum Act<'a> {
     ReduceAll,
 }
 
-fn copy<S: Kind>(rt: &impl Abort, alloc: Global, dag: &Plain<S>, rows: &[Row<'_>]) {
+fn copy<S: Kind>(rt: &impl Abort, alloc: Global, dag: &Plain<S>, rows: &str) {
     let mut copy = made(rt, S::copied(dag));
     play(rt, alloc, &mut copy, rows);
 }
 
-fn map<S: Kind>(rt: &impl Abort, alloc: Global, dag: &Plain<S>, noted: u64, rows: &[Row<'_>]) {
+fn map<S: Kind>(rt: &impl Abort, alloc: Global, dag: &Plain<S>, noted: u64, rows: &str) {
     let mut calls = 0;
     let mut mapped = made(rt, S::mapped(dag, &mut calls));
     play(rt, alloc, &mut mapped, rows);
@@ -100,7 +97,7 @@ fn part<S: Kind>(
     alloc: Global,
     dag: &Plain<S>,
     (without, noted): (u32, u64),
-    rows: &[Row<'_>],
+    rows: &str,
 ) {
     let mut calls = 0;
     let mut part = made(rt, S::part(dag, without, &mut calls));
@@ -108,7 +105,7 @@ fn part<S: Kind>(
     same(rt, calls, noted);
 }
 
-fn capacity<S: Kind>(rt: &impl Abort, alloc: Global, sizes: (usize, usize), rows: &[Row<'_>]) {
+fn capacity<S: Kind>(rt: &impl Abort, alloc: Global, sizes: (usize, usize), rows: &str) {
     let mut dag = made(rt, S::with_capacity(alloc, sizes.0, sizes.1));
     play(rt, alloc, &mut dag, rows);
 }
@@ -131,7 +128,7 @@ fn are_edges(rt: &impl Abort, indices: &[usize], weights: &[u32], edges: &[Line]
     }
 }
 
-fn play_over<S: Kind>(rt: &impl Abort, alloc: Global, dag: Option<Made<S>>, rows: &[Row<'_>]) {
+fn play_over<S: Kind>(rt: &impl Abort, alloc: Global, dag: Option<Made<S>>, rows: &str) {
     match dag {
         Some(dag) => play(rt, alloc, &mut made(rt, dag), rows),
         None => panic!(rt; "a table is too short"),
@@ -143,7 +140,7 @@ fn tables<S: Kind>(
     alloc: Global,
     dag: &mut Plain<S>,
     (nodes, edges): (&[u32], &[u32]),
-    rows: &[Row<'_>],
+    rows: &str,
 ) {
     play_over(rt, alloc, S::mapped_by(dag, nodes, edges), rows);
     play_over(rt, alloc, S::part_by(dag, nodes, edges), rows);
@@ -262,24 +259,24 @@ fn attempt<S: Kind>(rt: &impl Abort, dag: &mut Plain<S>, act: Act<'_>) {
 }
 
 /// A new dag, over which a table was played.
-pub fn dag_of<S: Kind>(rt: &impl Abort, alloc: Global, rows: &[Row<'_>]) -> Plain<S> {
+pub fn dag_of<S: Kind>(rt: &impl Abort, alloc: Global, rows: &str) -> Plain<S> {
     let mut dag: Plain<S> = Acyclic::new(alloc);
     play(rt, alloc, &mut dag, rows);
     dag
 }
 
 /// A new compact dag, over which a table was played.
-pub fn compact_of(rt: &impl Abort, alloc: Global, rows: &[Row<'_>]) -> Plain<Compact> {
+pub fn compact_of(rt: &impl Abort, alloc: Global, rows: &str) -> Plain<Compact> {
     dag_of(rt, alloc, rows)
 }
 
 /// A new stable dag, likewise.
-pub fn stable_of(rt: &impl Abort, alloc: Global, rows: &[Row<'_>]) -> Plain<Stable> {
+pub fn stable_of(rt: &impl Abort, alloc: Global, rows: &str) -> Plain<Stable> {
     dag_of(rt, alloc, rows)
 }
 
 /// Plays a table over a stable dag.
-pub fn play_stable(rt: &impl Abort, alloc: Global, dag: &mut Plain<Stable>, rows: &[Row<'_>]) {
+pub fn play_stable(rt: &impl Abort, alloc: Global, dag: &mut Plain<Stable>, rows: &str) {
     play(rt, alloc, dag, rows);
 }
 
@@ -289,23 +286,23 @@ fn apply_all<S: Kind>(rt: &impl Abort, alloc: Global, dag: &mut Plain<S>, acts: 
     }
 }
 
-fn begin<S: Kind>(rt: &impl Abort, alloc: Global, rows: &[Row<'_>], acts: &[Act<'_>]) {
+fn begin<S: Kind>(rt: &impl Abort, alloc: Global, rows: &str, acts: &[Act<'_>]) {
     let mut dag: Plain<S> = dag_of(rt, alloc, rows);
     apply_all(rt, alloc, &mut dag, acts);
 }
 
 /// Plays a table over a compact dag, and then acts with it.
-pub fn compact(rt: &impl Abort, alloc: Global, rows: &[Row<'_>], acts: &[Act<'_>]) {
+pub fn compact(rt: &impl Abort, alloc: Global, rows: &str, acts: &[Act<'_>]) {
     begin::<Compact>(rt, alloc, rows, acts);
 }
 
 /// Plays a table over a stable dag, and then acts with it.
-pub fn stable(rt: &impl Abort, alloc: Global, rows: &[Row<'_>], acts: &[Act<'_>]) {
+pub fn stable(rt: &impl Abort, alloc: Global, rows: &str, acts: &[Act<'_>]) {
     begin::<Stable>(rt, alloc, rows, acts);
 }
 
 /// Does the same with a dag of each kind.
-pub fn both(rt: &impl Abort, alloc: Global, rows: &[Row<'_>], acts: &[Act<'_>]) {
+pub fn both(rt: &impl Abort, alloc: Global, rows: &str, acts: &[Act<'_>]) {
     compact(rt, alloc, rows, acts);
     stable(rt, alloc, rows, acts);
 }

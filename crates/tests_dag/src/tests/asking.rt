@@ -1,6 +1,7 @@
 //! What a dag is asked about paths, and about what depends on what.
+use super::script::Answer;
 use super::support::{made, node, same};
-use super::table::{Answer, Call, Row, Scene, both, compact, is, stable};
+use super::table::{Scene, both, compact, is, stable};
 use daggy_base::index::{EdgeIndex, IndexType, NodeIndex};
 use daggy_base::store::Store;
 use daggy_dag::acyclic::Acyclic;
@@ -119,127 +120,100 @@ fn listed<Ix: IndexType, S: Store<Ix, NodeWeight = u32, EdgeWeight = u32>>(
 }
 
 // A path through the nodes 0, 1, 2 and 3, and two edges beside it.
-const PATH: &[Row<'static>] = &[
-    (Call::Nodes(4), Answer::Done),
-    (
-        Call::Extend(&[(0, 1, 1), (1, 2, 1), (2, 3, 1), (0, 3, 1), (0, 3, 1)]),
-        Answer::Done,
-    ),
-];
+const PATH: &str = "
+    nodes 4 = done
+    extend 0 1 1, 1 2 1, 2 3 1, 0 3 1, 0 3 1 = done
+";
 
 #[test]
 fn a_dag_tells_of_paths(rt: HostRuntime) {
-    const ROWS: &[Row<'static>] = &[
-        (Call::Ask(Question::Reaches(0, 3)), Answer::Done),
-        (Call::Ask(Question::Reaches(3, 0)), Answer::Nothing),
-        (Call::Ask(Question::Reaches(2, 2)), Answer::Done),
-        (Call::Ask(Question::Reaches(0, 9)), Answer::Nothing),
-        (Call::Ask(Question::Reaches(9, 9)), Answer::Nothing),
-        (Call::Ask(Question::ClosesCycle(3, 1)), Answer::Done),
-        (Call::Ask(Question::ClosesCycle(1, 3)), Answer::Nothing),
-        (Call::Ask(Question::Joined(0, 3)), Answer::Done),
-        (Call::Ask(Question::Joined(0, 2)), Answer::Nothing),
-        (Call::Ask(Question::Path(0, 2)), Answer::Nodes(&[0, 1, 2])),
-        // The edge from 0 to 3 is shorter than the path through all nodes.
-        (Call::Ask(Question::Path(0, 3)), Answer::Nodes(&[0, 3])),
-        (Call::Ask(Question::Path(2, 2)), Answer::Nodes(&[2])),
-        (Call::Ask(Question::Path(3, 0)), Answer::Nothing),
-        (Call::Ask(Question::Path(0, 9)), Answer::Nothing),
-        (Call::Ask(Question::PathEdges(0, 2)), Answer::Edges(&[0, 1])),
-        // The newer one of the two edges from 0 to 3.
-        (Call::Ask(Question::PathEdges(0, 3)), Answer::Edges(&[4])),
-        (Call::Ask(Question::PathEdges(2, 2)), Answer::Edges(&[])),
-        (Call::Ask(Question::PathEdges(3, 0)), Answer::Nothing),
-        (Call::Ask(Question::PathEdges(9, 9)), Answer::Nothing),
-        (Call::Ask(Question::Before(0, 3)), Answer::Done),
-        (Call::Ask(Question::Before(3, 0)), Answer::Nothing),
-        (Call::Ask(Question::Before(0, 0)), Answer::Nothing),
-        (Call::Ask(Question::Before(0, 9)), Answer::Nothing),
-        (Call::Ask(Question::Before(9, 0)), Answer::Nothing),
-    ];
+    const ROWS: &str = "
+        reaches 0 3 = done
+        reaches 3 0 = nothing
+        reaches 2 2 = done
+        reaches 0 9 = nothing
+        reaches 9 9 = nothing
+        closes_cycle 3 1 = done
+        closes_cycle 1 3 = nothing
+        joined 0 3 = done
+        joined 0 2 = nothing
+        path 0 2 = nodes 0 1 2
+        # The edge from 0 to 3 is shorter than the path through all nodes.
+        path 0 3 = nodes 0 3
+        path 2 2 = nodes 2
+        path 3 0 = nothing
+        path 0 9 = nothing
+        path_edges 0 2 = edges 0 1
+        # The newer one of the two edges from 0 to 3.
+        path_edges 0 3 = edges 4
+        path_edges 2 2 = edges
+        path_edges 3 0 = nothing
+        path_edges 9 9 = nothing
+        before 0 3 = done
+        before 3 0 = nothing
+        before 0 0 = nothing
+        before 0 9 = nothing
+        before 9 0 = nothing
+    ";
     both(&rt, rt.alloc(), Scene::Twice(PATH, ROWS));
 }
 
 #[test]
 fn a_dag_tells_what_depends_on_what(rt: HostRuntime) {
-    const ROWS: &[Row<'static>] = &[
-        (
-            Call::Ask(Question::Affected(&[2, 9, 1, 1])),
-            Answer::Nodes(&[1, 2, 3]),
-        ),
-        (Call::Ask(Question::Affected(&[3])), Answer::Nodes(&[3])),
-        (Call::Ask(Question::Affected(&[9])), Answer::Nodes(&[])),
-        (
-            Call::Ask(Question::Descendants(&[0])),
-            Answer::Nodes(&[1, 2, 3]),
-        ),
-        (
-            Call::Ask(Question::Descendants(&[2, 1])),
-            Answer::Nodes(&[2, 3]),
-        ),
-        (
-            Call::Ask(Question::Descendants(&[3, 9])),
-            Answer::Nodes(&[]),
-        ),
-        (
-            Call::Ask(Question::Ancestors(&[3])),
-            Answer::Nodes(&[0, 1, 2]),
-        ),
-        (
-            Call::Ask(Question::Ancestors(&[2, 1])),
-            Answer::Nodes(&[0, 1]),
-        ),
-        (Call::Ask(Question::Ancestors(&[0, 9])), Answer::Nodes(&[])),
-        // Asking changes nothing.
-        (Call::Order, Answer::Nodes(&[0, 1, 2, 3])),
-    ];
+    const ROWS: &str = "
+        affected 2 9 1 1 = nodes 1 2 3
+        affected 3 = nodes 3
+        affected 9 = nodes
+        descendants 0 = nodes 1 2 3
+        descendants 2 1 = nodes 2 3
+        descendants 3 9 = nodes
+        ancestors 3 = nodes 0 1 2
+        ancestors 2 1 = nodes 0 1
+        ancestors 0 9 = nodes
+        # Asking changes nothing.
+        order = nodes 0 1 2 3
+    ";
     both(&rt, rt.alloc(), Scene::Twice(PATH, ROWS));
 }
 
 #[test]
 fn an_empty_dag_has_no_answers(rt: HostRuntime) {
-    const ROWS: &[Row<'static>] = &[
-        (Call::Ask(Question::Reaches(0, 0)), Answer::Nothing),
-        (Call::Ask(Question::Path(0, 0)), Answer::Nothing),
-        (Call::Ask(Question::PathEdges(0, 0)), Answer::Nothing),
-        (Call::Ask(Question::Before(0, 1)), Answer::Nothing),
-        (Call::Ask(Question::Affected(&[0])), Answer::Nodes(&[])),
-        (Call::Ask(Question::Descendants(&[])), Answer::Nodes(&[])),
-        (Call::Ask(Question::Ancestors(&[0])), Answer::Nodes(&[])),
-    ];
+    const ROWS: &str = "
+        reaches 0 0 = nothing
+        path 0 0 = nothing
+        path_edges 0 0 = nothing
+        before 0 1 = nothing
+        affected 0 = nodes
+        descendants = nodes
+        ancestors 0 = nodes
+    ";
     both(&rt, rt.alloc(), Scene::Rows(ROWS));
 }
 
 #[test]
 fn no_path_leads_through_a_removed_node(rt: HostRuntime) {
     // Node 3 gets the index that is gone.
-    const ROWS: &[Row<'static>] = &[
-        (Call::RemoveNode(1), Answer::Weight(1)),
-        (Call::Ask(Question::PathEdges(0, 1)), Answer::Edges(&[1])),
-        (Call::Ask(Question::PathEdges(0, 2)), Answer::Nothing),
-        (Call::Ask(Question::Reaches(0, 1)), Answer::Done),
-        (Call::Ask(Question::Reaches(0, 2)), Answer::Nothing),
-        (
-            Call::Ask(Question::Affected(&[0, 3])),
-            Answer::Nodes(&[0, 1]),
-        ),
-        (Call::Ask(Question::Descendants(&[2])), Answer::Nodes(&[1])),
-        (Call::Ask(Question::Ancestors(&[2])), Answer::Nodes(&[])),
-    ];
-    const AFTER: &[Row<'static>] = &[
-        (Call::RemoveNode(1), Answer::Weight(1)),
-        (Call::Ask(Question::PathEdges(0, 3)), Answer::Edges(&[4])),
-        (Call::Ask(Question::PathEdges(0, 2)), Answer::Nothing),
-        (Call::Ask(Question::Reaches(0, 3)), Answer::Done),
-        (Call::Ask(Question::Reaches(0, 2)), Answer::Nothing),
-        (Call::Ask(Question::Reaches(1, 1)), Answer::Nothing),
-        (
-            Call::Ask(Question::Affected(&[0, 1])),
-            Answer::Nodes(&[0, 3]),
-        ),
-        (Call::Ask(Question::Descendants(&[1])), Answer::Nodes(&[])),
-        (Call::Ask(Question::Ancestors(&[2])), Answer::Nodes(&[])),
-    ];
+    const ROWS: &str = "
+        remove_node 1 = weight 1
+        path_edges 0 1 = edges 1
+        path_edges 0 2 = nothing
+        reaches 0 1 = done
+        reaches 0 2 = nothing
+        affected 0 3 = nodes 0 1
+        descendants 2 = nodes 1
+        ancestors 2 = nodes
+    ";
+    const AFTER: &str = "
+        remove_node 1 = weight 1
+        path_edges 0 3 = edges 4
+        path_edges 0 2 = nothing
+        reaches 0 3 = done
+        reaches 0 2 = nothing
+        reaches 1 1 = nothing
+        affected 0 1 = nodes 0 3
+        descendants 1 = nodes
+        ancestors 2 = nodes
+    ";
     compact(&rt, rt.alloc(), Scene::Twice(PATH, ROWS));
     stable(&rt, rt.alloc(), Scene::Twice(PATH, AFTER));
 }

@@ -1,8 +1,9 @@
 //! The transitive closure.
 use super::acts::{Act, both};
 use super::kinds::{Kind, Plain};
+use super::script::Answer;
 use super::support::{edge, made, node, same};
-use super::table::{Answer, edge_added, fill_nodes, is};
+use super::table::{edge_added, fill_nodes, is};
 use daggy_visit::visit::AdjMatrix;
 use std::process::Abort;
 
@@ -92,10 +93,10 @@ pub fn close_chain<S: Kind>(rt: &impl Abort, dag: &mut Plain<S>) {
 
 #[test]
 fn closures_of_paths(rt: HostRuntime) {
-    both(&rt, rt.alloc(), &[], &[Act::ClosePath]);
+    both(&rt, rt.alloc(), "", &[Act::ClosePath]);
 }
 
 #[test]
 fn closures_of_long_chains(rt: HostRuntime) {
-    both(&rt, rt.alloc(), &[], &[Act::CloseChain]);
+    both(&rt, rt.alloc(), "", &[Act::CloseChain]);
 }

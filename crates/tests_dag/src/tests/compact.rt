@@ -3,20 +3,20 @@
 use super::acts::{Act, TRIANGLE, both, compact, compact_of, dag_of};
 use super::kinds::{Compact, Kind, Plain, Three};
 use super::support::{holds, same};
-use super::table::{Answer, Call, Row, play};
+use super::table::play;
 use daggy_base::index::{Direction, EdgeIndex, NodeIndex};
 use std::alloc::{AllocError, Global};
 use std::process::Abort;
 
-const AGAIN: [Row<'static>; 7] = [
-    (Call::Counts, Answer::Counts(3, 3)),
-    (Call::Weight(0), Answer::Weight(10)),
-    (Call::Weight(1), Answer::Weight(11)),
-    (Call::Weight(2), Answer::Weight(12)),
-    (Call::Stored(1), Answer::Stored(0, 2, 101)),
-    (Call::Children(0), Answer::Walk(&[(1, 2), (0, 1)])),
-    (Call::Parents(2), Answer::Walk(&[(2, 1), (1, 0)])),
-];
+const AGAIN: &str = "
+    counts = counts 3 3
+    weight 0 = weight 10
+    weight 1 = weight 11
+    weight 2 = weight 12
+    stored 1 = stored 0 2 101
+    children 0 = walk 1 2, 0 1
+    parents 2 = walk 2 1, 1 0
+";
 
 // A call that changes what a dag has memory for, and nothing else.
 #[derive(Clone, Copy)]
@@ -50,11 +50,11 @@ impl Roomy for Compact {
 }
 
 fn ask_all<S: Roomy>(rt: &impl Abort, alloc: Global, rooms: &[Room], succeed: bool) {
-    let mut dag: Plain<S> = dag_of(rt, alloc, &TRIANGLE);
+    let mut dag: Plain<S> = dag_of(rt, alloc, TRIANGLE);
     for room in rooms {
         same(rt, S::ask(&mut dag, *room).is_ok(), succeed);
     }
-    play(rt, alloc, &mut dag, &AGAIN);
+    play(rt, alloc, &mut dag, AGAIN);
 }
 
 // Makes these calls of a triangle, which all succeed or all fail, and asserts that it is unchanged.
@@ -95,34 +95,34 @@ fn capacity_that_no_machine_has_is_refused(rt: HostRuntime) {
 
 #[test]
 fn a_dag_with_capacity_begins_empty(rt: HostRuntime) {
-    const ROWS: &[Row<'static>] = &[
-        (Call::Counts, Answer::Counts(0, 0)),
-        (Call::Node(1), Answer::Node(0)),
-        (Call::Node(2), Answer::Node(1)),
-        (Call::Edge(0, 1, 3), Answer::Edge(0)),
-        (Call::Edge(1, 0, 4), Answer::Cycle(4)),
-    ];
+    const ROWS: &str = "
+        counts = counts 0 0
+        node 1 = node 0
+        node 2 = node 1
+        edge 0 1 3 = edge 0
+        edge 1 0 4 = cycle 4
+    ";
     const ACTS: &[Act<'static>] = &[
         Act::Capacity(2, 1, ROWS),
         Act::NoCapacity(usize::MAX, 0),
         Act::NoCapacity(0, usize::MAX),
     ];
-    both(&rt, rt.alloc(), &[], ACTS);
+    both(&rt, rt.alloc(), "", ACTS);
 }
 
 #[test]
 fn an_update_shows_each_node_or_each_edge(rt: HostRuntime) {
-    const ROWS: &[Row<'static>] = &[
-        (Call::Weight(0), Answer::Weight(20)),
-        (Call::Weight(1), Answer::Weight(22)),
-        (Call::Weight(2), Answer::Weight(24)),
-        (Call::Stored(0), Answer::Stored(0, 1, 101)),
-        (Call::Stored(1), Answer::Stored(0, 2, 102)),
-        (Call::Stored(2), Answer::Stored(1, 2, 103)),
-        (Call::Edge(2, 0, 7), Answer::Cycle(7)),
-    ];
+    const ROWS: &str = "
+        weight 0 = weight 20
+        weight 1 = weight 22
+        weight 2 = weight 24
+        stored 0 = stored 0 1 101
+        stored 1 = stored 0 2 102
+        stored 2 = stored 1 2 103
+        edge 2 0 7 = cycle 7
+    ";
     const ACTS: &[Act<'static>] = &[Act::Update(101112, 202122), Act::Rows(ROWS)];
-    compact(&rt, rt.alloc(), &TRIANGLE, ACTS);
+    compact(&rt, rt.alloc(), TRIANGLE, ACTS);
 }
 
 #[test]
@@ -130,13 +130,13 @@ fn closures_read_tables_of_the_size_of_a_compact_dag(rt: HostRuntime) {
     const ACTS: &[Act<'static>] = &[Act::Tables(
         &[5, 6, 7],
         &[8, 9, 10],
-        &[
-            (Call::Weight(0), Answer::Weight(5)),
-            (Call::Weight(2), Answer::Weight(7)),
-            (Call::Stored(1), Answer::Stored(0, 2, 9)),
-        ],
+        "
+            weight 0 = weight 5
+            weight 2 = weight 7
+            stored 1 = stored 0 2 9
+        ",
     )];
-    compact(&rt, rt.alloc(), &TRIANGLE, ACTS);
+    compact(&rt, rt.alloc(), TRIANGLE, ACTS);
 }
 
 // Asserts what the slices of a triangle are without its first edge.
@@ -153,14 +153,11 @@ fn are_slices(rt: &impl Abort, dag: &Plain<Compact>) {
 
 #[test]
 fn slices_follow_a_removal(rt: HostRuntime) {
-    const ROWS: &[Row<'static>] = &[
-        (Call::Nodes(3), Answer::Done),
-        (
-            Call::Edges(&[(0, 1, 100), (0, 2, 101), (1, 2, 102)]),
-            Answer::Edges(&[0, 1, 2]),
-        ),
-        (Call::RemoveEdge(0), Answer::Weight(100)),
-    ];
+    const ROWS: &str = "
+        nodes 3 = done
+        edges 0 1 100, 0 2 101, 1 2 102 = edges 0 1 2
+        remove_edge 0 = weight 100
+    ";
     let dag = compact_of(&rt, rt.alloc(), ROWS);
     are_slices(&rt, &dag);
 }
@@ -171,12 +168,14 @@ fn weights_are_lent_in_order(rt: HostRuntime) {
     const EDGES: Three = (Some(100), Some(101), Some(102));
     const ACTS: &[Act<'static>] = &[
         Act::PutSecond(21, 30, NODES, EDGES),
-        Act::Rows(&[
-            (Call::Weight(0), Answer::Weight(10)),
-            (Call::Weight(1), Answer::Weight(21)),
-            (Call::Stored(0), Answer::Stored(0, 1, 100)),
-            (Call::Stored(1), Answer::Stored(0, 2, 30)),
-        ]),
+        Act::Rows(
+            "
+            weight 0 = weight 10
+            weight 1 = weight 21
+            stored 0 = stored 0 1 100
+            stored 1 = stored 0 2 30
+        ",
+        ),
     ];
-    compact(&rt, rt.alloc(), &TRIANGLE, ACTS);
+    compact(&rt, rt.alloc(), TRIANGLE, ACTS);
 }

@@ -2,38 +2,28 @@
 use super::acts::dag_of;
 use super::kinds::{Compact, Kind, Plain};
 use super::support::{made, same};
-use super::table::{Answer, Call, Row};
 use daggy_dag::acyclic::same_reachability;
 use std::alloc::{AllocError, Global};
 use std::process::Abort;
 
-const LONG_WAY_AND_SHORT: &[Row<'static>] = &[
-    (Call::Nodes(3), Answer::Done),
-    (
-        Call::Edges(&[(0, 1, 0), (1, 2, 1), (0, 2, 2)]),
-        Answer::Edges(&[0, 1, 2]),
-    ),
-];
+const LONG_WAY_AND_SHORT: &str = "
+    nodes 3 = done
+    edges 0 1 0, 1 2 1, 0 2 2 = edges 0 1 2
+";
 
-const LONG_WAY_TWICE_BEGUN: &[Row<'static>] = &[
-    (Call::Nodes(3), Answer::Done),
-    (
-        Call::Edges(&[(0, 1, 0), (0, 1, 1), (1, 2, 2)]),
-        Answer::Edges(&[0, 1, 2]),
-    ),
-];
+const LONG_WAY_TWICE_BEGUN: &str = "
+    nodes 3 = done
+    edges 0 1 0, 0 1 1, 1 2 2 = edges 0 1 2
+";
 
-const NO_WAY_FROM_THE_SECOND: &[Row<'static>] = &[
-    (Call::Nodes(3), Answer::Done),
-    (
-        Call::Edges(&[(0, 1, 0), (0, 1, 1), (0, 2, 2)]),
-        Answer::Edges(&[0, 1, 2]),
-    ),
-];
+const NO_WAY_FROM_THE_SECOND: &str = "
+    nodes 3 = done
+    edges 0 1 0, 0 1 1, 0 2 2 = edges 0 1 2
+";
 
-const ONE_NODE: &[Row<'static>] = &[(Call::Nodes(1), Answer::Done)];
+const ONE_NODE: &str = "nodes 1 = done";
 
-const TWO_NODES: &[Row<'static>] = &[(Call::Nodes(2), Answer::Done)];
+const TWO_NODES: &str = "nodes 2 = done";
 
 // A store whose dags are compared.
 trait Compared: Kind {
@@ -46,19 +36,14 @@ impl Compared for Compact {
     }
 }
 
-fn compare<S: Compared>(
-    rt: &impl Abort,
-    alloc: Global,
-    (a, b): (&[Row<'_>], &[Row<'_>]),
-    wanted: bool,
-) {
+fn compare<S: Compared>(rt: &impl Abort, alloc: Global, (a, b): (&str, &str), wanted: bool) {
     let a: Plain<S> = dag_of(rt, alloc, a);
     let b: Plain<S> = dag_of(rt, alloc, b);
     same(rt, made(rt, S::is_alike(&a, &b)), wanted);
     same(rt, made(rt, S::is_alike(&b, &a)), wanted);
 }
 
-fn compares(rt: &impl Abort, alloc: Global, a: &[Row<'_>], b: &[Row<'_>], wanted: bool) {
+fn compares(rt: &impl Abort, alloc: Global, a: &str, b: &str, wanted: bool) {
     compare::<Compact>(rt, alloc, (a, b), wanted);
 }
 
@@ -74,5 +59,5 @@ fn what_reaches_what_is_compared(rt: HostRuntime) {
         false,
     );
     compares(&rt, alloc, ONE_NODE, TWO_NODES, false);
-    compares(&rt, alloc, &[], &[], true);
+    compares(&rt, alloc, "", "", true);
 }

@@ -2,7 +2,6 @@
 use super::acts::{compact_of, dag_of, play_stable, stable_of};
 use super::kinds::{Compact, CompactTexts, Kind, Plain, Stable, StableTexts, TextDag, TextKind};
 use super::support::{holds, made, reads, same, text};
-use super::table::{Answer, Call, Row};
 use daggy_base::index::NodeIndex;
 use daggy_dag::acyclic::{Acyclic, StableDag};
 use daggy_graph::graph::DiGraph;
@@ -10,11 +9,11 @@ use daggy_stable::stable_graph::StableDiGraph;
 use std::alloc::Global;
 use std::process::Abort;
 
-const PAIR: [Row<'static>; 3] = [
-    (Call::Node(1), Answer::Node(0)),
-    (Call::Node(3), Answer::Node(1)),
-    (Call::Edge(0, 1, 2), Answer::Edge(0)),
-];
+const PAIR: &str = "
+    node 1 = node 0
+    node 3 = node 1
+    edge 0 1 2 = edge 0
+";
 
 // Asserts that a store holds the pair, and takes the edge back.
 fn may_hold_cycles<S: Kind>(rt: &impl Abort, mut store: S) {
@@ -29,7 +28,7 @@ fn may_hold_cycles<S: Kind>(rt: &impl Abort, mut store: S) {
 }
 
 fn pair<S: Kind>(rt: &impl Abort, alloc: Global) -> Plain<S> {
-    dag_of(rt, alloc, &PAIR)
+    dag_of(rt, alloc, PAIR)
 }
 
 fn convert<S: Kind + From<Plain<S>>>(rt: &impl Abort, alloc: Global) {
@@ -45,11 +44,11 @@ fn a_graph_that_was_a_dag_may_hold_cycles(rt: HostRuntime) {
 
 #[test]
 fn a_dag_gives_its_order_away(rt: HostRuntime) {
-    const ROWS: &[Row<'static>] = &[
-        (Call::Node(1), Answer::Node(0)),
-        (Call::Node(3), Answer::Node(1)),
-        (Call::Edge(1, 0, 2), Answer::Edge(0)),
-    ];
+    const ROWS: &str = "
+        node 1 = node 0
+        node 3 = node 1
+        edge 1 0 2 = edge 0
+    ";
     let (graph, order) = compact_of(&rt, rt.alloc(), ROWS).into_parts();
     same(&rt, graph.edge_count(), 1);
     same(&rt, order.len(), 2);
@@ -58,26 +57,23 @@ fn a_dag_gives_its_order_away(rt: HostRuntime) {
 
 #[test]
 fn a_compact_dag_keeps_its_lists(rt: HostRuntime) {
-    const ROWS: &[Row<'static>] = &[
-        (Call::Node(0), Answer::Node(0)),
-        (Call::Node(1), Answer::Node(1)),
-        (Call::Node(2), Answer::Node(2)),
-        (
-            Call::Edges(&[(0, 1, 4), (0, 2, 5), (0, 1, 6)]),
-            Answer::Edges(&[0, 1, 2]),
-        ),
-        (Call::RemoveEdge(0), Answer::Weight(4)),
-    ];
-    const AFTER: &[Row<'static>] = &[
-        (Call::Children(0), Answer::Walk(&[(0, 1), (1, 2)])),
-        (Call::Counts, Answer::Counts(3, 2)),
-        (Call::Weight(2), Answer::Weight(2)),
-        (Call::Stored(0), Answer::Stored(0, 1, 6)),
-        (Call::Stored(1), Answer::Stored(0, 2, 5)),
-        (Call::Edge(1, 2, 7), Answer::Edge(2)),
-        (Call::Node(3), Answer::Node(3)),
-        (Call::Edge(2, 0, 8), Answer::Cycle(8)),
-    ];
+    const ROWS: &str = "
+        node 0 = node 0
+        node 1 = node 1
+        node 2 = node 2
+        edges 0 1 4, 0 2 5, 0 1 6 = edges 0 1 2
+        remove_edge 0 = weight 4
+    ";
+    const AFTER: &str = "
+        children 0 = walk 0 1, 1 2
+        counts = counts 3 2
+        weight 2 = weight 2
+        stored 0 = stored 0 1 6
+        stored 1 = stored 0 2 5
+        edge 1 2 7 = edge 2
+        node 3 = node 3
+        edge 2 0 8 = cycle 8
+    ";
     let compact = compact_of(&rt, rt.alloc(), ROWS);
     let mut dag = made(&rt, StableDag::from_dag(compact));
     play_stable(&rt, rt.alloc(), &mut dag, AFTER);
@@ -117,12 +113,12 @@ struct Named<D> {
 
 #[test]
 fn a_struct_that_holds_a_dag_is_cloned(rt: HostRuntime) {
-    const ROWS: &[Row<'static>] = &[
-        (Call::Weight(1), Answer::Weight(3)),
-        (Call::Stored(0), Answer::Stored(0, 1, 2)),
-        (Call::Edge(0, 1, 5), Answer::Edge(1)),
-    ];
-    let dag = stable_of(&rt, rt.alloc(), &PAIR);
+    const ROWS: &str = "
+        weight 1 = weight 3
+        stored 0 = stored 0 1 2
+        edge 0 1 5 = edge 1
+    ";
+    let dag = stable_of(&rt, rt.alloc(), PAIR);
     let named = Named { dag, name: 7 };
     let mut copy = made(&rt, named.clone());
     same(&rt, copy.name, named.name);

@@ -2,20 +2,20 @@
 use super::acts::{TRIANGLE, dag_of};
 use super::kinds::{Compact, Kind, Plain, Stable};
 use super::support::{edge, holds, made, node, same, shows};
-use super::table::{Answer, Call, Row, play};
+use super::table::play;
 use daggy_dag::acyclic::{Acyclic, FromGraphError};
 use std::alloc::Global;
 use std::process::Abort;
 
-const AS_BEFORE: &[Row<'static>] = &[
-    (Call::Counts, Answer::Counts(3, 3)),
-    (Call::Stored(1), Answer::Stored(0, 2, 101)),
-    (Call::Edge(2, 0, 7), Answer::Cycle(7)),
-];
+const AS_BEFORE: &str = "
+    counts = counts 3 3
+    stored 1 = stored 0 2 101
+    edge 2 0 7 = cycle 7
+";
 
 // Makes a dag of the graph of a triangle, and none while an edge leads back.
 fn close_and_open<S: Kind>(rt: &impl Abort, alloc: Global) {
-    let dag: Plain<S> = dag_of(rt, alloc, &TRIANGLE);
+    let dag: Plain<S> = dag_of(rt, alloc, TRIANGLE);
     let mut graph = dag.into_graph();
     let (first, last) = (node(rt, 0), node(rt, 2));
     holds(

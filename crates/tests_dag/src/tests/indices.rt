@@ -1,6 +1,6 @@
 use super::acts::{Act, TRIANGLE, both};
 use super::support::same;
-use super::table::{Answer, Call, Scene, compact_by};
+use super::table::{Scene, compact_by};
 use daggy_base::index::{EdgeIndex, IndexType, NodeIndex};
 use std::alloc::Global;
 use std::process::Abort;
@@ -9,14 +9,16 @@ fn joins_two_nodes<Ix: IndexType>(rt: &impl Abort, alloc: Global) {
     compact_by::<Ix>(
         rt,
         alloc,
-        Scene::Rows(&[
-            (Call::Node(1), Answer::Node(0)),
-            (Call::Node(2), Answer::Node(1)),
-            (Call::Edge(0, 1, 7), Answer::Edge(0)),
-            (Call::Edge(1, 0, 5), Answer::Cycle(5)),
-            (Call::Children(0), Answer::Walk(&[(0, 1)])),
-            (Call::Find(0, 1), Answer::Edge(0)),
-        ]),
+        Scene::Rows(
+            "
+            node 1 = node 0
+            node 2 = node 1
+            edge 0 1 7 = edge 0
+            edge 1 0 5 = cycle 5
+            children 0 = walk 0 1
+            find 0 1 = edge 0
+        ",
+        ),
     );
 }
 
@@ -37,5 +39,5 @@ fn an_index_becomes_a_number(rt: HostRuntime) {
 
 #[test]
 fn references_to_one_edge_are_equal(rt: HostRuntime) {
-    both(&rt, rt.alloc(), &TRIANGLE, &[Act::References]);
+    both(&rt, rt.alloc(), TRIANGLE, &[Act::References]);
 }

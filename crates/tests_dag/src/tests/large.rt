@@ -1,5 +1,6 @@
 //! Graphs that are large beside a stack, or dense.
-use super::table::{Answer, Scene, compact_by, edge_added, is, node_added};
+use super::script::Answer;
+use super::table::{Scene, compact_by, edge_added, is, node_added};
 use daggy_base::index::IndexType;
 use daggy_base::store::Store;
 use daggy_dag::acyclic::Acyclic;

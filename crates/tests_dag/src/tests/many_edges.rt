@@ -1,9 +1,8 @@
 //! Many edges or elements at once, in both kinds.
 use super::ordering::indices;
+use super::script::{Answer, Call};
 use super::support::{made, node, same};
-use super::table::{
-    Answer, Call, Part, Row, Scene, both, edge_added, fill_nodes, is, items, play_row, walk,
-};
+use super::table::{Part, Scene, both, edge_added, fill_nodes, is, items, play_row, walk};
 use daggy_base::error::EdgesError;
 use daggy_base::index::IndexType;
 use daggy_base::store::Store;
@@ -14,107 +13,75 @@ use std::process::Abort;
 
 #[test]
 fn a_series_gives_its_indices_in_order(rt: HostRuntime) {
-    const ROWS: &[Row<'static>] = &[
-        (Call::Node(0), Answer::Node(0)),
-        (Call::Node(1), Answer::Node(1)),
-        (Call::Node(2), Answer::Node(2)),
-        (Call::Node(3), Answer::Node(3)),
-        (Call::Edges(&[]), Answer::Edges(&[])),
-        (
-            Call::Edges(&[(0, 1, 0), (0, 2, 1), (0, 3, 2)]),
-            Answer::Edges(&[0, 1, 2]),
-        ),
-        (Call::Stored(1), Answer::Stored(0, 2, 1)),
-        (Call::Find(0, 2), Answer::Edge(1)),
-        (Call::Children(0), Answer::Walk(&[(2, 3), (1, 2), (0, 1)])),
-        (Call::Edge(3, 0, 0), Answer::Cycle(0)),
-    ];
+    const ROWS: &str = "
+        node 0 = node 0
+        node 1 = node 1
+        node 2 = node 2
+        node 3 = node 3
+        edges = edges
+        edges 0 1 0, 0 2 1, 0 3 2 = edges 0 1 2
+        stored 1 = stored 0 2 1
+        find 0 2 = edge 1
+        children 0 = walk 2 3, 1 2, 0 1
+        edge 3 0 0 = cycle 0
+    ";
     both(&rt, rt.alloc(), Scene::Rows(ROWS));
 }
 
 #[test]
 fn a_series_that_closes_a_cycle_adds_nothing(rt: HostRuntime) {
-    const ROWS: &[Row<'static>] = &[
-        (Call::Node(0), Answer::Node(0)),
-        (Call::Node(1), Answer::Node(1)),
-        (Call::Node(2), Answer::Node(2)),
-        (Call::Node(3), Answer::Node(3)),
-        (
-            Call::Edges(&[(0, 1, 0), (0, 2, 1), (0, 3, 2), (3, 3, 3)]),
-            Answer::CycleAll(&[3, 2, 1, 0]),
-        ),
-        (
-            Call::Edges(&[(0, 1, 0), (0, 2, 1), (0, 3, 2), (3, 0, 3)]),
-            Answer::CycleAll(&[3, 2, 1, 0]),
-        ),
-        (Call::Counts, Answer::Counts(4, 0)),
-        (Call::Children(0), Answer::Walk(&[])),
-        (Call::Children(3), Answer::Walk(&[])),
-        (Call::Parents(0), Answer::Walk(&[])),
-        (Call::Parents(1), Answer::Walk(&[])),
-        (Call::Parents(3), Answer::Walk(&[])),
-    ];
+    const ROWS: &str = "
+        node 0 = node 0
+        node 1 = node 1
+        node 2 = node 2
+        node 3 = node 3
+        edges 0 1 0, 0 2 1, 0 3 2, 3 3 3 = cycle_all 3 2 1 0
+        edges 0 1 0, 0 2 1, 0 3 2, 3 0 3 = cycle_all 3 2 1 0
+        counts = counts 4 0
+        children 0 = walk
+        children 3 = walk
+        parents 0 = walk
+        parents 1 = walk
+        parents 3 = walk
+    ";
     both(&rt, rt.alloc(), Scene::Rows(ROWS));
 }
 
 #[test]
 fn a_cycle_in_the_middle_of_a_series_is_found_at_its_end(rt: HostRuntime) {
-    const ROWS: &[Row<'static>] = &[
-        (Call::Node(0), Answer::Node(0)),
-        (Call::Node(1), Answer::Node(1)),
-        (Call::Node(2), Answer::Node(2)),
-        (Call::Edges(&[(0, 1, 1)]), Answer::Edges(&[0])),
-        (
-            Call::Edges(&[(1, 2, 2), (2, 0, 3), (0, 2, 4)]),
-            Answer::CycleAll(&[4, 3, 2]),
-        ),
-        (Call::Children(0), Answer::Walk(&[(0, 1)])),
-        (Call::Children(1), Answer::Walk(&[])),
-    ];
+    const ROWS: &str = "
+        node 0 = node 0
+        node 1 = node 1
+        node 2 = node 2
+        edges 0 1 1 = edges 0
+        edges 1 2 2, 2 0 3, 0 2 4 = cycle_all 4 3 2
+        children 0 = walk 0 1
+        children 1 = walk
+    ";
     both(&rt, rt.alloc(), Scene::Rows(ROWS));
 }
 
 // A path from node 0 to node 4 that the order has first, and then five edges of two nodes each.
-const CONFLICTS: &[Row<'static>] = &[
-    (Call::Nodes(15), Answer::Done),
-    (
-        Call::Edges(&[(0, 1, 0), (1, 2, 0), (2, 3, 0), (3, 4, 0)]),
-        Answer::Edges(&[0, 1, 2, 3]),
-    ),
-    (
-        Call::Edges(&[(5, 6, 0), (7, 8, 0), (9, 10, 0), (11, 12, 0), (13, 14, 0)]),
-        Answer::Edges(&[4, 5, 6, 7, 8]),
-    ),
-];
+const CONFLICTS: &str = "
+    nodes 15 = done
+    edges 0 1 0, 1 2 0, 2 3 0, 3 4 0 = edges 0 1 2 3
+    edges 5 6 0, 7 8 0, 9 10 0, 11 12 0, 13 14 0 = edges 4 5 6 7 8
+";
 
 // Each item needs a search of the whole path. The order is abandoned at the last one.
 #[test]
 fn a_series_may_need_many_searches(rt: HostRuntime) {
-    const ROWS: &[Row<'static>] = &[
-        (
-            Call::Edges(&[(6, 0, 1), (8, 0, 2), (10, 0, 3), (12, 0, 4), (14, 0, 5)]),
-            Answer::Edges(&[9, 10, 11, 12, 13]),
-        ),
-        (Call::Edge(4, 13, 6), Answer::Cycle(6)),
-        (Call::Edge(4, 5, 7), Answer::Cycle(7)),
-        (Call::Edge(6, 13, 8), Answer::Edge(14)),
-    ];
-    const CYCLE: &[Row<'static>] = &[
-        (
-            Call::Edges(&[
-                (6, 0, 1),
-                (8, 0, 2),
-                (10, 0, 3),
-                (12, 0, 4),
-                (14, 0, 5),
-                (4, 5, 6),
-                (0, 2, 7),
-            ]),
-            Answer::CycleAll(&[7, 6, 5, 4, 3, 2, 1]),
-        ),
-        (Call::Counts, Answer::Counts(15, 9)),
-        (Call::Edge(4, 5, 8), Answer::Edge(9)),
-    ];
+    const ROWS: &str = "
+        edges 6 0 1, 8 0 2, 10 0 3, 12 0 4, 14 0 5 = edges 9 10 11 12 13
+        edge 4 13 6 = cycle 6
+        edge 4 5 7 = cycle 7
+        edge 6 13 8 = edge 14
+    ";
+    const CYCLE: &str = "
+        edges 6 0 1, 8 0 2, 10 0 3, 12 0 4, 14 0 5, 4 5 6, 0 2 7 = cycle_all 7 6 5 4 3 2 1
+        counts = counts 15 9
+        edge 4 5 8 = edge 9
+    ";
     both(&rt, rt.alloc(), Scene::Twice(CONFLICTS, ROWS));
     both(&rt, rt.alloc(), Scene::Twice(CONFLICTS, CYCLE));
 }
@@ -151,54 +118,53 @@ fn an_extension_keeps_what_it_made(rt: HostRuntime) {
     both(
         &rt,
         rt.alloc(),
-        Scene::Rows(&[
-            (
-                Call::Extend(&[(0, 1, 5), (1, 2, 6), (2, 0, 7), (0, 3, 8)]),
-                Answer::Cycle(7),
-            ),
-            (Call::Counts, Answer::Counts(3, 2)),
-            (Call::Weight(2), Answer::Weight(0)),
-            (Call::Stored(0), Answer::Stored(0, 1, 5)),
-            (Call::Stored(1), Answer::Stored(1, 2, 6)),
-        ]),
+        Scene::Rows(
+            "
+            extend 0 1 5, 1 2 6, 2 0 7, 0 3 8 = cycle 7
+            counts = counts 3 2
+            weight 2 = weight 0
+            stored 0 = stored 0 1 5
+            stored 1 = stored 1 2 6
+        ",
+        ),
     );
 }
 
 #[test]
 fn an_extension_makes_the_nodes_before_an_end(rt: HostRuntime) {
-    const ROWS: &[Row<'static>] = &[
-        (Call::Extend(&[(0, 1, 5), (5, 5, 6)]), Answer::Cycle(6)),
-        (Call::Counts, Answer::Counts(6, 1)),
-        (Call::Stored(0), Answer::Stored(0, 1, 5)),
-    ];
+    const ROWS: &str = "
+        extend 0 1 5, 5 5 6 = cycle 6
+        counts = counts 6 1
+        stored 0 = stored 0 1 5
+    ";
     both(&rt, rt.alloc(), Scene::Rows(ROWS));
 }
 
 #[test]
 fn an_extension_needs_an_index_for_each_node_and_edge(rt: HostRuntime) {
-    const ROWS: &[Row<'static>] = &[
-        (Call::Extend(&[(0, 255, 4)]), Answer::NoIndex(4)),
-        (Call::Counts, Answer::Counts(0, 0)),
-        (Call::Extend(&[(0, 254, 0)]), Answer::Done),
-        (Call::Counts, Answer::Counts(255, 1)),
-    ];
-    const FULL: &[Row<'static>] = &[
-        (Call::Nodes(2), Answer::Done),
-        (Call::Fill(0, 1), Answer::Done),
-        (Call::Extend(&[(0, 2, 3)]), Answer::NoIndex(3)),
-    ];
+    const ROWS: &str = "
+        extend 0 255 4 = no_index 4
+        counts = counts 0 0
+        extend 0 254 0 = done
+        counts = counts 255 1
+    ";
+    const FULL: &str = "
+        nodes 2 = done
+        fill 0 1 = done
+        extend 0 2 3 = no_index 3
+    ";
     both(&rt, rt.alloc(), Scene::Rows(ROWS));
     both(&rt, rt.alloc(), Scene::Rows(FULL));
 }
 
 #[test]
 fn a_dag_is_made_of_edges(rt: HostRuntime) {
-    const ROWS: &[Row<'static>] = &[
-        (Call::Counts, Answer::Counts(3, 3)),
-        (Call::Weight(2), Answer::Weight(0)),
-        (Call::Children(0), Answer::Walk(&[(2, 2), (0, 1)])),
-        (Call::Stored(0), Answer::Stored(0, 1, 0)),
-    ];
+    const ROWS: &str = "
+        counts = counts 3 3
+        weight 2 = weight 0
+        children 0 = walk 2 2, 0 1
+        stored 0 = stored 0 1 0
+    ";
     both(
         &rt,
         rt.alloc(),
@@ -211,7 +177,7 @@ fn edges_that_close_a_cycle_make_no_dag(rt: HostRuntime) {
     both(
         &rt,
         rt.alloc(),
-        Scene::OfPairs(&[(0, 1), (1, 0)], Answer::Cycle(0), &[]),
+        Scene::OfPairs(&[(0, 1), (1, 0)], Answer::Cycle(0), ""),
     );
 }
 
@@ -221,8 +187,8 @@ fn a_dag_of_edges_needs_an_index_for_each_node_and_edge(rt: HostRuntime) {
     const MOST: &[(usize, usize)] = &[(0, 1); 255];
     const MORE: &[(usize, usize)] = &[(0, 1); 256];
     const FULL: Answer<'static> = Answer::NoIndex(0);
-    const ROWS: &[Row<'static>] = &[(Call::Counts, Answer::Counts(2, 255))];
-    const NO_ROWS: &[Row<'static>] = &[];
+    const ROWS: &str = "counts = counts 2 255";
+    const NO_ROWS: &str = "";
     both(&rt, rt.alloc(), Scene::OfPairs(PAST, FULL, NO_ROWS));
     both(&rt, rt.alloc(), Scene::OfPairs(MOST, Answer::Done, ROWS));
     both(&rt, rt.alloc(), Scene::OfPairs(MORE, FULL, NO_ROWS));
@@ -236,22 +202,18 @@ fn elements_are_nodes_and_edges_by_position(rt: HostRuntime) {
         Part::Edge(0, 1, 7),
         Part::Edge(0, 1, 8),
     ];
-    const ROWS: &[Row<'static>] = &[
-        (Call::Counts, Answer::Counts(2, 1)),
-        (Call::Weight(1), Answer::Weight(2)),
-        (Call::Stored(0), Answer::Stored(0, 1, 8)),
-    ];
+    const ROWS: &str = "
+        counts = counts 2 1
+        weight 1 = weight 2
+        stored 0 = stored 0 1 8
+    ";
     both(&rt, rt.alloc(), Scene::OfParts(PARTS, Answer::Done, ROWS));
 }
 
 #[test]
 fn an_element_needs_the_nodes_at_its_ends(rt: HostRuntime) {
     const PARTS: &[Part] = &[Part::Node(1), Part::Edge(300, 0, 9)];
-    both(
-        &rt,
-        rt.alloc(),
-        Scene::OfParts(PARTS, Answer::NoEnd(9), &[]),
-    );
+    both(&rt, rt.alloc(), Scene::OfParts(PARTS, Answer::NoEnd(9), ""));
 }
 
 #[test]
@@ -262,11 +224,7 @@ fn an_element_that_closes_a_cycle_is_refused(rt: HostRuntime) {
         Part::Edge(0, 1, 7),
         Part::Edge(1, 0, 4),
     ];
-    both(
-        &rt,
-        rt.alloc(),
-        Scene::OfParts(PARTS, Answer::Cycle(4), &[]),
-    );
+    both(&rt, rt.alloc(), Scene::OfParts(PARTS, Answer::Cycle(4), ""));
 }
 
 // `nodes` nodes and `edges` edges between them, no two with the same endpoints. The weight of each
@@ -300,7 +258,7 @@ fn elements_need_an_index_for_each_node_and_edge(rt: HostRuntime) {
         both(
             &rt,
             rt.alloc(),
-            Scene::OfParts(parts.as_slice(), wanted, &[]),
+            Scene::OfParts(parts.as_slice(), wanted, ""),
         );
     }
 }

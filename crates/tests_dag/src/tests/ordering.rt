@@ -1,8 +1,7 @@
 //! The order of its nodes that a dag keeps, where its edges allow but one.
+use super::script::{Answer, Call};
 use super::support::{made, node, same};
-use super::table::{
-    Answer, Call, Row, Scene, both, compact, edge_added, fill_nodes, is, play_row, stable,
-};
+use super::table::{Scene, both, compact, edge_added, fill_nodes, is, play_row, stable};
 use daggy_base::index::IndexType;
 use daggy_base::store::Store;
 use daggy_dag::acyclic::Acyclic;
@@ -57,24 +56,24 @@ fn an_order_is_read_backwards(rt: HostRuntime) {
 
 #[test]
 fn what_is_removed_leaves_the_order(rt: HostRuntime) {
-    const ROWS: &[Row<'static>] = &[
-        (Call::Node(10), Answer::Node(0)),
-        (Call::Child(0, 1, 11), Answer::EdgeNode(0, 1)),
-        (Call::Parent(0, 2, 12), Answer::EdgeNode(1, 2)),
-        (Call::Order, Answer::Nodes(&[2, 0, 1])),
-        // The last node gets the index that is gone.
-        (Call::RemoveNode(0), Answer::Weight(10)),
-        (Call::Order, Answer::Nodes(&[0, 1])),
-        (Call::Clear, Answer::Done),
-        (Call::Order, Answer::Nodes(&[])),
-    ];
-    const AFTER: &[Row<'static>] = &[
-        (Call::Node(10), Answer::Node(0)),
-        (Call::Child(0, 1, 11), Answer::EdgeNode(0, 1)),
-        (Call::Parent(0, 2, 12), Answer::EdgeNode(1, 2)),
-        (Call::RemoveNode(0), Answer::Weight(10)),
-        (Call::Order, Answer::Nodes(&[2, 1])),
-    ];
+    const ROWS: &str = "
+        node 10 = node 0
+        child 0 1 11 = edge_node 0 1
+        parent 0 2 12 = edge_node 1 2
+        order = nodes 2 0 1
+        # The last node gets the index that is gone.
+        remove_node 0 = weight 10
+        order = nodes 0 1
+        clear = done
+        order = nodes
+    ";
+    const AFTER: &str = "
+        node 10 = node 0
+        child 0 1 11 = edge_node 0 1
+        parent 0 2 12 = edge_node 1 2
+        remove_node 0 = weight 10
+        order = nodes 2 1
+    ";
     compact(&rt, rt.alloc(), Scene::Rows(ROWS));
     stable(&rt, rt.alloc(), Scene::Rows(AFTER));
 }

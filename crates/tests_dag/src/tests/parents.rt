@@ -1,7 +1,8 @@
 //! The edges that enter a node, replaced all at once.
 use super::acts::TRIANGLE;
+use super::script::Answer;
 use super::support::{holds, made, node, same};
-use super::table::{Answer, Call, Row, Scene, both, compact, is, stable};
+use super::table::{Scene, both, compact, is, stable};
 use daggy_base::error::{ParentsError, WouldCycle};
 use daggy_base::index::{IndexType, NodeIndex};
 use daggy_base::store::Store;
@@ -79,140 +80,128 @@ pub fn lack_some<Ix: IndexType, S: Store<Ix, NodeWeight = u32, EdgeWeight = u32>
 
 #[test]
 fn parents_are_replaced_and_the_last_edges_move(rt: HostRuntime) {
-    const ROWS: &[Row<'static>] = &[
-        (Call::SetParents(2, &[(1, 7), (1, 8)]), Answer::Done),
-        (Call::Counts, Answer::Counts(3, 3)),
-        (Call::Stored(0), Answer::Stored(0, 1, 100)),
-        (Call::Stored(1), Answer::Stored(1, 2, 7)),
-        (Call::Stored(2), Answer::Stored(1, 2, 8)),
-        (Call::Parents(2), Answer::Walk(&[(2, 1), (1, 1)])),
-        (Call::Parents(1), Answer::Walk(&[(0, 0)])),
-        (Call::Children(0), Answer::Walk(&[(0, 1)])),
-        (Call::Edge(2, 0, 9), Answer::Cycle(9)),
-    ];
-    compact(&rt, rt.alloc(), Scene::Twice(&TRIANGLE, ROWS));
+    const ROWS: &str = "
+        set_parents 2, 1 7, 1 8 = done
+        counts = counts 3 3
+        stored 0 = stored 0 1 100
+        stored 1 = stored 1 2 7
+        stored 2 = stored 1 2 8
+        parents 2 = walk 2 1, 1 1
+        parents 1 = walk 0 0
+        children 0 = walk 0 1
+        edge 2 0 9 = cycle 9
+    ";
+    compact(&rt, rt.alloc(), Scene::Twice(TRIANGLE, ROWS));
 }
 
 #[test]
 fn parents_are_replaced_and_no_other_index_changes(rt: HostRuntime) {
-    const ROWS: &[Row<'static>] = &[
-        (Call::SetParents(2, &[(1, 7), (1, 8)]), Answer::Done),
-        (Call::Counts, Answer::Counts(3, 3)),
-        (Call::Stored(0), Answer::Stored(0, 1, 100)),
-        (Call::Stored(1), Answer::Nothing),
-        (Call::Stored(2), Answer::Nothing),
-        (Call::Stored(3), Answer::Stored(1, 2, 7)),
-        (Call::Stored(4), Answer::Stored(1, 2, 8)),
-        (Call::Parents(2), Answer::Walk(&[(4, 1), (3, 1)])),
-        (Call::Children(0), Answer::Walk(&[(0, 1)])),
-        // The lowest old edge was removed last.
-        (Call::Edge(0, 2, 9), Answer::Edge(1)),
-    ];
+    const ROWS: &str = "
+        set_parents 2, 1 7, 1 8 = done
+        counts = counts 3 3
+        stored 0 = stored 0 1 100
+        stored 1 = nothing
+        stored 2 = nothing
+        stored 3 = stored 1 2 7
+        stored 4 = stored 1 2 8
+        parents 2 = walk 4 1, 3 1
+        children 0 = walk 0 1
+        # The lowest old edge was removed last.
+        edge 0 2 9 = edge 1
+    ";
     // The slot of a removed edge is used again.
-    const REUSED: &[Row<'static>] = &[
-        (Call::RemoveEdge(0), Answer::Weight(100)),
-        (Call::SetParents(2, &[(0, 7), (1, 8)]), Answer::Done),
-        (Call::Counts, Answer::Counts(3, 2)),
-        (Call::Parents(2), Answer::Walk(&[(3, 1), (0, 0)])),
-        (Call::Stored(0), Answer::Stored(0, 2, 7)),
-    ];
-    stable(&rt, rt.alloc(), Scene::Twice(&TRIANGLE, ROWS));
-    stable(&rt, rt.alloc(), Scene::Twice(&TRIANGLE, REUSED));
+    const REUSED: &str = "
+        remove_edge 0 = weight 100
+        set_parents 2, 0 7, 1 8 = done
+        counts = counts 3 2
+        parents 2 = walk 3 1, 0 0
+        stored 0 = stored 0 2 7
+    ";
+    stable(&rt, rt.alloc(), Scene::Twice(TRIANGLE, ROWS));
+    stable(&rt, rt.alloc(), Scene::Twice(TRIANGLE, REUSED));
 }
 
 #[test]
 fn parents_that_would_close_a_cycle_come_back(rt: HostRuntime) {
-    const ROWS: &[Row<'static>] = &[
-        (Call::SetParents(0, &[(2, 5)]), Answer::Cycle(1)),
-        (Call::SetParents(1, &[(0, 5), (2, 6)]), Answer::Cycle(2)),
-        // The node itself.
-        (
-            Call::SetParents(2, &[(0, 5), (2, 6), (1, 7)]),
-            Answer::Cycle(3),
-        ),
-        (Call::Counts, Answer::Counts(3, 3)),
-        (Call::Parents(0), Answer::Walk(&[])),
-        (Call::Parents(1), Answer::Walk(&[(0, 0)])),
-        (Call::Parents(2), Answer::Walk(&[(2, 1), (1, 0)])),
-        (Call::Edge(0, 1, 7), Answer::Edge(3)),
-    ];
-    both(&rt, rt.alloc(), Scene::Twice(&TRIANGLE, ROWS));
+    const ROWS: &str = "
+        set_parents 0, 2 5 = cycle 1
+        set_parents 1, 0 5, 2 6 = cycle 2
+        # The node itself.
+        set_parents 2, 0 5, 2 6, 1 7 = cycle 3
+        counts = counts 3 3
+        parents 0 = walk
+        parents 1 = walk 0 0
+        parents 2 = walk 2 1, 1 0
+        edge 0 1 7 = edge 3
+    ";
+    both(&rt, rt.alloc(), Scene::Twice(TRIANGLE, ROWS));
 }
 
 #[test]
 fn a_node_may_lose_all_parents(rt: HostRuntime) {
-    const ROWS: &[Row<'static>] = &[
-        (Call::SetParents(2, &[]), Answer::Done),
-        (Call::SetParents(0, &[]), Answer::Done),
-        (Call::Counts, Answer::Counts(3, 1)),
-        (Call::Parents(2), Answer::Walk(&[])),
-        // What would have closed a cycle does no more.
-        (Call::SetParents(0, &[(2, 5)]), Answer::Done),
-        (Call::Edge(1, 2, 6), Answer::Cycle(6)),
-        (Call::LackSome(&[(0, 1), (3, 1)]), Answer::Done),
-        (Call::LackSome(&[(0, 1), (2, 1)]), Answer::Nothing),
-    ];
-    both(&rt, rt.alloc(), Scene::Twice(&TRIANGLE, ROWS));
+    const ROWS: &str = "
+        set_parents 2 = done
+        set_parents 0 = done
+        counts = counts 3 1
+        parents 2 = walk
+        # What would have closed a cycle does no more.
+        set_parents 0, 2 5 = done
+        edge 1 2 6 = cycle 6
+        lack_some 0 1, 3 1 = done
+        lack_some 0 1, 2 1 = nothing
+    ";
+    both(&rt, rt.alloc(), Scene::Twice(TRIANGLE, ROWS));
 }
 
 #[test]
 fn parents_are_put_before_the_node_in_the_order(rt: HostRuntime) {
-    const ROWS: &[Row<'static>] = &[
-        (Call::Nodes(4), Answer::Done),
-        (Call::SetParents(0, &[(2, 5), (1, 6), (3, 7)]), Answer::Done),
-        (Call::Parents(0), Answer::Walk(&[(2, 3), (1, 1), (0, 2)])),
-        (Call::SetParents(1, &[(2, 8)]), Answer::Done),
-        (Call::SetParents(2, &[(0, 9)]), Answer::Cycle(1)),
-        (Call::SetParents(3, &[(1, 9)]), Answer::Done),
-        (Call::Order, Answer::Nodes(&[2, 1, 3, 0])),
-    ];
+    const ROWS: &str = "
+        nodes 4 = done
+        set_parents 0, 2 5, 1 6, 3 7 = done
+        parents 0 = walk 2 3, 1 1, 0 2
+        set_parents 1, 2 8 = done
+        set_parents 2, 0 9 = cycle 1
+        set_parents 3, 1 9 = done
+        order = nodes 2 1 3 0
+    ";
     both(&rt, rt.alloc(), Scene::Rows(ROWS));
 }
 
 // Node 0 reaches 1 and 2. Nodes 4 and 6 have a parent each, so a search is needed for them.
 #[test]
 fn parents_that_stand_behind_are_moved_at_once(rt: HostRuntime) {
-    const MADE: &[Row<'static>] = &[
-        (Call::Nodes(7), Answer::Done),
-        (
-            Call::Edges(&[(0, 1, 0), (1, 2, 0), (3, 4, 0), (5, 6, 0)]),
-            Answer::Edges(&[0, 1, 2, 3]),
-        ),
-    ];
-    const ROWS: &[Row<'static>] = &[
-        (Call::SetParents(0, &[(4, 7), (6, 8), (4, 9)]), Answer::Done),
-        (Call::Order, Answer::Nodes(&[3, 4, 5, 6, 0, 1, 2])),
-        (Call::Edge(2, 5, 1), Answer::Cycle(1)),
-    ];
+    const MADE: &str = "
+        nodes 7 = done
+        edges 0 1 0, 1 2 0, 3 4 0, 5 6 0 = edges 0 1 2 3
+    ";
+    const ROWS: &str = "
+        set_parents 0, 4 7, 6 8, 4 9 = done
+        order = nodes 3 4 5 6 0 1 2
+        edge 2 5 1 = cycle 1
+    ";
     // A parent that the node reaches stands before the last one.
-    const CYCLE: &[Row<'static>] = &[
-        (
-            Call::SetParents(0, &[(4, 7), (2, 8), (6, 9)]),
-            Answer::Cycle(3),
-        ),
-        (
-            Call::SetParents(0, &[(4, 7), (0, 8), (6, 9)]),
-            Answer::Cycle(3),
-        ),
-        (Call::Counts, Answer::Counts(7, 4)),
-        (Call::SetParents(0, &[(6, 9)]), Answer::Done),
-    ];
+    const CYCLE: &str = "
+        set_parents 0, 4 7, 2 8, 6 9 = cycle 3
+        set_parents 0, 4 7, 0 8, 6 9 = cycle 3
+        counts = counts 7 4
+        set_parents 0, 6 9 = done
+    ";
     both(&rt, rt.alloc(), Scene::Twice(MADE, ROWS));
     both(&rt, rt.alloc(), Scene::Twice(MADE, CYCLE));
 }
 
 #[test]
 fn parents_need_indices_beside_the_old_edges(rt: HostRuntime) {
-    const ROWS: &[Row<'static>] = &[
-        (Call::Nodes(2), Answer::Done),
-        (Call::Fill(0, 1), Answer::Done),
-        (Call::SetParents(1, &[(0, 9)]), Answer::NoIndex(1)),
-        (Call::SetParents(0, &[(1, 9)]), Answer::Cycle(1)),
-        (Call::Counts, Answer::Counts(2, 255)),
-        (Call::RemoveEdge(254), Answer::Weight(1)),
-        (Call::SetParents(1, &[(0, 8), (0, 9)]), Answer::NoIndex(2)),
-        (Call::SetParents(1, &[(0, 9)]), Answer::Done),
-        (Call::Counts, Answer::Counts(2, 1)),
-    ];
+    const ROWS: &str = "
+        nodes 2 = done
+        fill 0 1 = done
+        set_parents 1, 0 9 = no_index 1
+        set_parents 0, 1 9 = cycle 1
+        counts = counts 2 255
+        remove_edge 254 = weight 1
+        set_parents 1, 0 8, 0 9 = no_index 2
+        set_parents 1, 0 9 = done
+        counts = counts 2 1
+    ";
     both(&rt, rt.alloc(), Scene::Rows(ROWS));
 }

@@ -2,7 +2,6 @@
 use super::acts::{Act, TRIANGLE, both, compact, compact_of, stable};
 use super::kinds::{Compact, Kind, Plain, note};
 use super::support::{holds, same};
-use super::table::{Answer, Call, Row};
 use daggy_base::source::EdgeSource;
 use daggy_visit::visit::NodeIndexable;
 use std::cell::Cell;
@@ -30,42 +29,42 @@ pub fn keep_edges<S: Kind>(rt: &impl Abort, dag: &mut Plain<S>, without: u32, no
 
 #[test]
 fn nodes_that_are_not_kept_go_with_their_edges(rt: HostRuntime) {
-    const COMPACT: &[Row<'static>] = &[
-        (Call::Counts, Answer::Counts(2, 1)),
-        (Call::Weight(0), Answer::Weight(10)),
-        (Call::Weight(1), Answer::Weight(12)),
-        (Call::Stored(0), Answer::Stored(0, 1, 101)),
-        (Call::Edge(1, 0, 7), Answer::Cycle(7)),
-    ];
-    const STABLE: &[Row<'static>] = &[
-        (Call::Counts, Answer::Counts(2, 1)),
-        (Call::Weight(0), Answer::Weight(10)),
-        (Call::Weight(1), Answer::Nothing),
-        (Call::Stored(1), Answer::Stored(0, 2, 101)),
-        (Call::Edge(2, 0, 7), Answer::Cycle(7)),
-    ];
+    const COMPACT: &str = "
+        counts = counts 2 1
+        weight 0 = weight 10
+        weight 1 = weight 12
+        stored 0 = stored 0 1 101
+        edge 1 0 7 = cycle 7
+    ";
+    const STABLE: &str = "
+        counts = counts 2 1
+        weight 0 = weight 10
+        weight 1 = nothing
+        stored 1 = stored 0 2 101
+        edge 2 0 7 = cycle 7
+    ";
     const KEEP: Act<'static> = Act::KeepNodes(11, 121110);
-    compact(&rt, rt.alloc(), &TRIANGLE, &[KEEP, Act::Rows(COMPACT)]);
-    stable(&rt, rt.alloc(), &TRIANGLE, &[KEEP, Act::Rows(STABLE)]);
+    compact(&rt, rt.alloc(), TRIANGLE, &[KEEP, Act::Rows(COMPACT)]);
+    stable(&rt, rt.alloc(), TRIANGLE, &[KEEP, Act::Rows(STABLE)]);
 }
 
 #[test]
 fn edges_that_are_not_kept_go(rt: HostRuntime) {
-    const COMPACT: &[Row<'static>] = &[
-        (Call::Counts, Answer::Counts(3, 2)),
-        (Call::Stored(0), Answer::Stored(1, 2, 102)),
-        (Call::Stored(1), Answer::Stored(0, 2, 101)),
-        (Call::Edge(1, 0, 7), Answer::Edge(2)),
-    ];
-    const STABLE: &[Row<'static>] = &[
-        (Call::Counts, Answer::Counts(3, 2)),
-        (Call::Stored(0), Answer::Nothing),
-        (Call::Stored(2), Answer::Stored(1, 2, 102)),
-        (Call::Edge(1, 0, 7), Answer::Edge(0)),
-    ];
+    const COMPACT: &str = "
+        counts = counts 3 2
+        stored 0 = stored 1 2 102
+        stored 1 = stored 0 2 101
+        edge 1 0 7 = edge 2
+    ";
+    const STABLE: &str = "
+        counts = counts 3 2
+        stored 0 = nothing
+        stored 2 = stored 1 2 102
+        edge 1 0 7 = edge 0
+    ";
     const KEEP: Act<'static> = Act::KeepEdges(100, 222120);
-    compact(&rt, rt.alloc(), &TRIANGLE, &[KEEP, Act::Rows(COMPACT)]);
-    stable(&rt, rt.alloc(), &TRIANGLE, &[KEEP, Act::Rows(STABLE)]);
+    compact(&rt, rt.alloc(), TRIANGLE, &[KEEP, Act::Rows(COMPACT)]);
+    stable(&rt, rt.alloc(), TRIANGLE, &[KEEP, Act::Rows(STABLE)]);
 }
 
 #[test]
@@ -74,10 +73,10 @@ fn all_is_kept_and_nothing_is_asked_of_an_empty_dag(rt: HostRuntime) {
     const ALL: &[Act<'static>] = &[
         Act::KeepNodes(0, 121110),
         Act::KeepEdges(0, 222120),
-        Act::Rows(&[(Call::Counts, Answer::Counts(3, 3))]),
+        Act::Rows("counts = counts 3 3"),
     ];
-    stable(&rt, rt.alloc(), &[], NOTHING);
-    both(&rt, rt.alloc(), &TRIANGLE, ALL);
+    stable(&rt, rt.alloc(), "", NOTHING);
+    both(&rt, rt.alloc(), TRIANGLE, ALL);
 }
 
 // Keeps what two tables say of a triangle.
@@ -93,6 +92,6 @@ fn keep_by_table(rt: &impl Abort, dag: &mut Plain<Compact>) {
 
 #[test]
 fn what_is_kept_is_read_from_a_table(rt: HostRuntime) {
-    let mut dag = compact_of(&rt, rt.alloc(), &TRIANGLE);
+    let mut dag = compact_of(&rt, rt.alloc(), TRIANGLE);
     keep_by_table(&rt, &mut dag);
 }

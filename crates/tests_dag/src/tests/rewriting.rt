@@ -2,14 +2,13 @@
 use super::acts::{Act, TRIANGLE, play_stable, stable, stable_of};
 use super::kinds::{Plain, Stable, StableTexts, TextDag, TextKind};
 use super::support::{made, reads, same, text};
-use super::table::{Answer, Call, Row};
 use daggy_base::index::Direction;
 use daggy_dag::acyclic::Acyclic;
 use std::alloc::Global;
 use std::process::Abort;
 
 // Removes the middle node of a triangle, so that the edge 1 alone is left.
-const CUT_ROWS: &[Row<'static>] = &[(Call::RemoveNode(1), Answer::Weight(11))];
+const CUT_ROWS: &str = "remove_node 1 = weight 11";
 
 const CUT: Act<'static> = Act::Rows(CUT_ROWS);
 
@@ -18,38 +17,40 @@ fn weights_are_lent_past_vacant_slots(rt: HostRuntime) {
     const ACTS: &[Act<'static>] = &[
         CUT,
         Act::PutSecond(22, 30, (Some(10), Some(12), None), (Some(101), None, None)),
-        Act::Rows(&[
-            (Call::Weight(0), Answer::Weight(10)),
-            (Call::Weight(1), Answer::Nothing),
-            (Call::Weight(2), Answer::Weight(22)),
-            (Call::Stored(1), Answer::Stored(0, 2, 101)),
-            (Call::Node(13), Answer::Node(1)),
-        ]),
+        Act::Rows(
+            "
+            weight 0 = weight 10
+            weight 1 = nothing
+            weight 2 = weight 22
+            stored 1 = stored 0 2 101
+            node 13 = node 1
+        ",
+        ),
     ];
-    stable(&rt, rt.alloc(), &TRIANGLE, ACTS);
+    stable(&rt, rt.alloc(), TRIANGLE, ACTS);
 }
 
 #[test]
 fn an_update_shows_what_is_in_no_vacant_slot(rt: HostRuntime) {
-    const ROWS: &[Row<'static>] = &[
-        (Call::Weight(0), Answer::Weight(20)),
-        (Call::Weight(2), Answer::Weight(24)),
-        (Call::Stored(1), Answer::Stored(0, 2, 102)),
-        (Call::Edge(2, 0, 7), Answer::Cycle(7)),
-    ];
+    const ROWS: &str = "
+        weight 0 = weight 20
+        weight 2 = weight 24
+        stored 1 = stored 0 2 102
+        edge 2 0 7 = cycle 7
+    ";
     const ACTS: &[Act<'static>] = &[CUT, Act::Update(1012, 21), Act::Rows(ROWS)];
-    stable(&rt, rt.alloc(), &TRIANGLE, ACTS);
+    stable(&rt, rt.alloc(), TRIANGLE, ACTS);
 }
 
 #[test]
 fn closures_read_tables_of_the_bounds_of_a_stable_dag(rt: HostRuntime) {
-    const ROWS: &[Row<'static>] = &[
-        (Call::Weight(0), Answer::Weight(5)),
-        (Call::Weight(2), Answer::Weight(7)),
-        (Call::Stored(1), Answer::Stored(0, 2, 9)),
-    ];
+    const ROWS: &str = "
+        weight 0 = weight 5
+        weight 2 = weight 7
+        stored 1 = stored 0 2 9
+    ";
     const ACTS: &[Act<'static>] = &[CUT, Act::Tables(&[5, 6, 7], &[8, 9], ROWS)];
-    stable(&rt, rt.alloc(), &TRIANGLE, ACTS);
+    stable(&rt, rt.alloc(), TRIANGLE, ACTS);
 }
 
 // Makes the weight of each node greater by one than those of its parents together.
@@ -69,13 +70,13 @@ fn sum_parents(dag: &mut Plain<Stable>) {
 
 #[test]
 fn weights_of_a_stable_dag_are_recomputed_from_those_of_parents(rt: HostRuntime) {
-    const ROWS: &[Row<'static>] = &[
-        (Call::Weight(0), Answer::Weight(1)),
-        (Call::Weight(1), Answer::Nothing),
-        (Call::Weight(2), Answer::Weight(2)),
-        (Call::Stored(1), Answer::Stored(0, 2, 101)),
-    ];
-    let mut dag = stable_of(&rt, rt.alloc(), &TRIANGLE);
+    const ROWS: &str = "
+        weight 0 = weight 1
+        weight 1 = nothing
+        weight 2 = weight 2
+        stored 1 = stored 0 2 101
+    ";
+    let mut dag = stable_of(&rt, rt.alloc(), TRIANGLE);
     play_stable(&rt, rt.alloc(), &mut dag, CUT_ROWS);
     sum_parents(&mut dag);
     play_stable(&rt, rt.alloc(), &mut dag, ROWS);

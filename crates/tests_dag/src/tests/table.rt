@@ -1,13 +1,14 @@
-//! Calls of a dag of either kind and their answers as rows of a table, made and compared in one
-//! loop.
+//! The calls of a script, made of a dag of either kind, and their answers compared.
 //!
-//! A test is proved too, and a call costs it more than a row, so the calls are only here.
-use super::asking::{Question, ask as ask_of_paths};
+//! A test is proved too, and a call costs it more than a line of a script, so the calls are only
+//! here.
+use super::asking::ask as ask_of_paths;
 use super::large::{search_dense_graph, search_long_chain};
 use super::many_edges::{add_sorted_list, end_at_a_fault};
 use super::ordering::{read_backwards, sort_long_series, sort_round_vacant_slots, tell_length};
 use super::parents::{lack_some, set_parents};
 use super::reducing::reduce_diamonds;
+use super::script::{Answer, Call, answer_of, call_of, is_row, sides};
 use super::support::{edge, holds, made, node, same};
 use daggy_base::element::Element;
 use daggy_base::error::{EdgeError, EdgesError, ElementError, NodeError, WouldCycle};
@@ -20,78 +21,6 @@ use daggy_visit::visit::NodeIndexable;
 use daggy_walk::walker::Walker;
 use std::alloc::Global;
 use std::process::Abort;
-
-/// A call of a dag whose weights are numbers.
-#[derive(Clone, Copy)]
-pub enum Call<'a> {
-    Node(u32),
-    Edge(usize, usize, u32),
-    Update(usize, usize, u32),
-    Child(usize, u32, u32),
-    Parent(usize, u32, u32),
-    Edges(&'a [(usize, usize, u32)]),
-    Extend(&'a [(usize, usize, u32)]),
-    // Adds that many nodes to an empty dag. Their weights are their indices.
-    Nodes(usize),
-    // Adds edges of weight 1 from one node to another until no index is left.
-    Fill(usize, usize),
-    // Removes the redundant edges below some roots.
-    Reduce(&'a [usize]),
-    // Replaces the edges that enter a node.
-    SetParents(usize, &'a [(usize, u32)]),
-    // Whether not all of these nodes exist.
-    LackSome(&'a [(usize, u32)]),
-    RemoveNode(usize),
-    RemoveEdge(usize),
-    ClearEdges,
-    Clear,
-    Counts,
-    // How far the indices of nodes and of edges go.
-    Bounds,
-    Weight(usize),
-    Stored(usize),
-    Find(usize, usize),
-    Children(usize),
-    Parents(usize),
-    // The edges from one node to another.
-    Connecting(usize, usize),
-    Externals(Direction),
-    Order,
-    Ask(Question<'a>),
-    // Writes a weight where it is lent, if there is such a node or edge.
-    LendNode(usize, u32),
-    LendEdge(usize, u32),
-    // Writes and reads a weight by its index.
-    IndexNode(usize, u32),
-    IndexEdge(usize, u32),
-}
-
-/// What a call answers.
-#[derive(Clone, Copy, Debug, PartialEq)]
-pub enum Answer<'a> {
-    Node(usize),
-    Edge(usize),
-    EdgeNode(usize, usize),
-    Edges(&'a [usize]),
-    Nodes(&'a [usize]),
-    Walk(&'a [(usize, usize)]),
-    Weight(u32),
-    Stored(usize, usize, u32),
-    Counts(usize, usize),
-    Nothing,
-    Done,
-    Cycle(u32),
-    NoEnd(u32),
-    NoIndex(u32),
-    // No index is left for a node, where an edge could be meant too.
-    NoNodeIndex(u32),
-    CycleAll(&'a [u32]),
-    NoEndAt(u32, &'a [u32]),
-    NoIndexAt(u32, &'a [u32]),
-}
-
-/// A row of a table.
-pub type Row<'a> = (Call<'a>, Answer<'a>);
 
 /// Asserts what was answered.
 pub fn is(rt: &impl Abort, found: Answer<'_>, wanted: Answer<'_>) {
@@ -483,15 +412,28 @@ pub fn play_row<Ix: IndexType, S: Store<Ix, NodeWeight = u32, EdgeWeight = u32>>
     }
 }
 
-/// Makes the calls of a table, and asserts that each has its answer.
+// Makes the call of a line, and asserts that it has this answer.
+fn play_line<Ix: IndexType, S: Store<Ix, NodeWeight = u32, EdgeWeight = u32>>(
+    rt: &impl Abort,
+    alloc: Global,
+    dag: &mut Acyclic<u32, u32, Ix, S>,
+    line: &str,
+) {
+    let (call, wanted) = sides(rt, alloc, line);
+    play_row(rt, alloc, dag, call_of(rt, &call), answer_of(rt, &wanted));
+}
+
+/// Makes the calls of a script, and asserts that each has its answer.
 pub fn play<Ix: IndexType, S: Store<Ix, NodeWeight = u32, EdgeWeight = u32>>(
     rt: &impl Abort,
     alloc: Global,
     dag: &mut Acyclic<u32, u32, Ix, S>,
-    rows: &[Row<'_>],
+    script: &str,
 ) {
-    for (call, wanted) in rows {
-        play_row(rt, alloc, dag, *call, *wanted);
+    for line in script.lines() {
+        if is_row(line) {
+            play_line(rt, alloc, dag, line);
+        }
     }
 }
 
@@ -500,14 +442,14 @@ pub fn play<Ix: IndexType, S: Store<Ix, NodeWeight = u32, EdgeWeight = u32>>(
 #[derive(Clone, Copy)]
 pub enum Scene<'a> {
     /// A table is played.
-    Rows(&'a [Row<'a>]),
+    Rows(&'a str),
     /// Two tables are played, one after the other.
-    Twice(&'a [Row<'a>], &'a [Row<'a>]),
+    Twice(&'a str, &'a str),
     /// A dag is made of edges, whose weights are 0, with this answer, and a table is played over
     /// it.
-    OfPairs(&'a [(usize, usize)], Answer<'a>, &'a [Row<'a>]),
+    OfPairs(&'a [(usize, usize)], Answer<'a>, &'a str),
     /// A dag is made of elements, with this answer, and a table is played over it.
-    OfParts(&'a [Part], Answer<'a>, &'a [Row<'a>]),
+    OfParts(&'a [Part], Answer<'a>, &'a str),
     /// A long series comes back, and is added.
     LongSeries,
     /// A long series is added to a dag with vacant slots.
@@ -684,7 +626,7 @@ fn of_pairs<Ix: IndexType, S: Store<Ix, NodeWeight = u32, EdgeWeight = u32>>(
     alloc: Global,
     pairs: &[(usize, usize)],
     wanted: Answer<'_>,
-    rows: &[Row<'_>],
+    rows: &str,
 ) {
     match Acyclic::<u32, u32, Ix, S>::from_edges(alloc, ends(rt, alloc, pairs)) {
         Ok(mut dag) => {
@@ -724,7 +666,7 @@ fn of_parts<Ix: IndexType, S: Store<Ix, NodeWeight = u32, EdgeWeight = u32>>(
     alloc: Global,
     parts: &[Part],
     wanted: Answer<'_>,
-    rows: &[Row<'_>],
+    rows: &str,
 ) {
     match Acyclic::<u32, u32, Ix, S>::from_elements(alloc, elements(rt, alloc, parts)) {
         Ok(mut dag) => {

@@ -2,7 +2,7 @@
 use super::acts::{Act, both};
 use super::kinds::{Kind, Plain};
 use super::support::{edge, holds, made, node, same};
-use super::table::{Answer, Call, fill_nodes};
+use super::table::fill_nodes;
 use daggy_base::error::{EdgeError, NodeError, TryChildError, WouldCycle};
 use std::process::Abort;
 
@@ -84,17 +84,19 @@ pub fn try_full<S: Kind>(rt: &impl Abort, dag: &mut Plain<S>) {
 fn conditions_are_tested(rt: HostRuntime) {
     const ACTS: &[Act<'static>] = &[
         Act::TryAll,
-        Act::Rows(&[
-            (Call::Stored(0), Answer::Stored(0, 1, 10)),
-            (Call::Stored(1), Answer::Stored(1, 2, 12)),
-            (Call::Stored(2), Answer::Stored(3, 0, 13)),
-            (Call::Counts, Answer::Counts(4, 3)),
-        ]),
+        Act::Rows(
+            "
+            stored 0 = stored 0 1 10
+            stored 1 = stored 1 2 12
+            stored 2 = stored 3 0 13
+            counts = counts 4 3
+        ",
+        ),
     ];
-    both(&rt, rt.alloc(), &[], ACTS);
+    both(&rt, rt.alloc(), "", ACTS);
 }
 
 #[test]
 fn full_dags_refuse(rt: HostRuntime) {
-    both(&rt, rt.alloc(), &[], &[Act::TryFull]);
+    both(&rt, rt.alloc(), "", &[Act::TryFull]);
 }

@@ -1,8 +1,9 @@
 //! Code over the traits of graphs, and sets and matrices for a dag.
 use super::acts::{Act, both, compact_of, stable};
 use super::kinds::{Kind, Plain};
+use super::script::Answer;
 use super::support::{holds, made, same, shows};
-use super::table::{Answer, Call, Row, edge_added, is, node_added};
+use super::table::{edge_added, is, node_added};
 use daggy_base::index::{EdgeIndex, NodeIndex};
 use daggy_visit::visit::{
     Data, DataMap, DataMapMut, GetAdjacencyMatrix, GraphBase, GraphProp, NodeCompactIndexable,
@@ -11,12 +12,12 @@ use daggy_visit::visit::{
 use std::alloc::{AllocError, Global};
 use std::process::Abort;
 
-const THREE: [Row<'static>; 4] = [
-    (Call::Node(10), Answer::Node(0)),
-    (Call::Node(20), Answer::Node(1)),
-    (Call::Node(30), Answer::Node(2)),
-    (Call::Edge(0, 1, 5), Answer::Edge(0)),
-];
+const THREE: &str = "
+    node 10 = node 0
+    node 20 = node 1
+    node 30 = node 2
+    edge 0 1 5 = edge 0
+";
 
 fn twice<G: GraphBase>(n: G::NodeId, e: G::EdgeId) -> ([G::NodeId; 2], [G::EdgeId; 2]) {
     ([n, n], [e, e])
@@ -163,61 +164,60 @@ fn generic_code_reads_and_writes_a_dag(rt: HostRuntime) {
     const ACTS: &[Act<'static>] = &[
         Act::Read,
         Act::Write(1, 21, 0, 6),
-        Act::Rows(&[
-            (Call::Weight(1), Answer::Weight(21)),
-            (Call::Stored(0), Answer::Stored(0, 1, 6)),
-        ]),
+        Act::Rows(
+            "
+            weight 1 = weight 21
+            stored 0 = stored 0 1 6
+        ",
+        ),
     ];
-    both(&rt, rt.alloc(), &THREE, ACTS);
+    both(&rt, rt.alloc(), THREE, ACTS);
 }
 
 #[test]
 fn a_set_is_reset_for_more_nodes(rt: HostRuntime) {
     const ACTS: &[Act<'static>] = &[Act::Reset(70)];
-    both(&rt, rt.alloc(), &[], ACTS);
+    both(&rt, rt.alloc(), "", ACTS);
 }
 
-const FIRST_GONE: [Row<'static>; 2] = [
-    (Call::RemoveNode(0), Answer::Weight(10)),
-    (Call::Bounds, Answer::Counts(3, 0)),
-];
+const FIRST_GONE: &str = "
+    remove_node 0 = weight 10
+    bounds = counts 3 0
+";
 
-const LAST_GONE: [Row<'static>; 2] = [
-    (Call::RemoveNode(2), Answer::Weight(30)),
-    (Call::Bounds, Answer::Counts(2, 1)),
-];
+const LAST_GONE: &str = "
+    remove_node 2 = weight 30
+    bounds = counts 2 1
+";
 
 #[test]
 fn a_set_reaches_to_the_bound(rt: HostRuntime) {
-    const ACTS: &[Act<'static>] = &[Act::Rows(&FIRST_GONE), Act::Visit(2)];
-    stable(&rt, rt.alloc(), &THREE, ACTS);
+    const ACTS: &[Act<'static>] = &[Act::Rows(FIRST_GONE), Act::Visit(2)];
+    stable(&rt, rt.alloc(), THREE, ACTS);
 }
 
 #[test]
 fn a_set_reaches_to_the_last_that_is_left(rt: HostRuntime) {
-    const ACTS: &[Act<'static>] = &[Act::Rows(&LAST_GONE), Act::Visit(1)];
-    stable(&rt, rt.alloc(), &THREE, ACTS);
+    const ACTS: &[Act<'static>] = &[Act::Rows(LAST_GONE), Act::Visit(1)];
+    stable(&rt, rt.alloc(), THREE, ACTS);
 }
 
 #[test]
 fn bounds_end_with_the_last_in_use(rt: HostRuntime) {
-    const ROWS: &[Row<'static>] = &[
-        (
-            Call::Extend(&[(0, 1, 100), (1, 2, 101), (0, 2, 102)]),
-            Answer::Done,
-        ),
-        (Call::RemoveNode(1), Answer::Weight(0)),
-        (Call::Bounds, Answer::Counts(3, 3)),
-        (Call::RemoveNode(2), Answer::Weight(0)),
-        (Call::Bounds, Answer::Counts(1, 0)),
-        (Call::Node(5), Answer::Node(2)),
-    ];
+    const ROWS: &str = "
+        extend 0 1 100, 1 2 101, 0 2 102 = done
+        remove_node 1 = weight 0
+        bounds = counts 3 3
+        remove_node 2 = weight 0
+        bounds = counts 1 0
+        node 5 = node 2
+    ";
     stable(&rt, rt.alloc(), ROWS, &[]);
 }
 
 #[test]
 fn a_compact_dag_has_a_node_at_each_index(rt: HostRuntime) {
-    let dag = compact_of(&rt, rt.alloc(), &THREE);
+    let dag = compact_of(&rt, rt.alloc(), THREE);
     same(&rt, is_full(&dag), true);
 }
 
@@ -237,5 +237,5 @@ pub fn keep_pairs<S: Kind>(rt: &impl Abort, alloc: Global, dag: &mut Plain<S>) {
 
 #[test]
 fn a_matrix_has_the_pairs_of_its_time(rt: HostRuntime) {
-    stable(&rt, rt.alloc(), &THREE, &[Act::KeepPairs]);
+    stable(&rt, rt.alloc(), THREE, &[Act::KeepPairs]);
 }

@@ -1,50 +1,50 @@
 //! Weights that are read and written in place.
-use super::table::{Answer, Call, Row, Scene, both, stable};
+use super::table::{Scene, both, stable};
 
 #[test]
 fn weights_are_written_where_they_are_lent(rt: HostRuntime) {
-    const ROWS: &[Row<'static>] = &[
-        (Call::Node(1), Answer::Node(0)),
-        (Call::Child(0, 2, 3), Answer::EdgeNode(0, 1)),
-        (Call::LendNode(1, 30), Answer::Done),
-        (Call::LendEdge(0, 20), Answer::Done),
-        (Call::LendNode(2, 40), Answer::Nothing),
-        (Call::LendEdge(1, 40), Answer::Nothing),
-        (Call::Weight(0), Answer::Weight(1)),
-        (Call::Weight(1), Answer::Weight(30)),
-        (Call::Stored(0), Answer::Stored(0, 1, 20)),
-    ];
+    const ROWS: &str = "
+        node 1 = node 0
+        child 0 2 3 = edge_node 0 1
+        lend_node 1 30 = done
+        lend_edge 0 20 = done
+        lend_node 2 40 = nothing
+        lend_edge 1 40 = nothing
+        weight 0 = weight 1
+        weight 1 = weight 30
+        stored 0 = stored 0 1 20
+    ";
     both(&rt, rt.alloc(), Scene::Rows(ROWS));
 }
 
 #[test]
 fn weights_are_read_and_written_by_index(rt: HostRuntime) {
-    const ROWS: &[Row<'static>] = &[
-        (Call::Node(1), Answer::Node(0)),
-        (Call::Child(0, 2, 3), Answer::EdgeNode(0, 1)),
-        (Call::IndexNode(0, 100), Answer::Weight(100)),
-        (Call::IndexEdge(0, 200), Answer::Weight(200)),
-        (Call::Weight(0), Answer::Weight(100)),
-        (Call::Weight(1), Answer::Weight(3)),
-        (Call::Stored(0), Answer::Stored(0, 1, 200)),
-    ];
+    const ROWS: &str = "
+        node 1 = node 0
+        child 0 2 3 = edge_node 0 1
+        index_node 0 100 = weight 100
+        index_edge 0 200 = weight 200
+        weight 0 = weight 100
+        weight 1 = weight 3
+        stored 0 = stored 0 1 200
+    ";
     both(&rt, rt.alloc(), Scene::Rows(ROWS));
 }
 
 #[test]
 fn a_vacant_slot_lends_no_weight(rt: HostRuntime) {
-    const ROWS: &[Row<'static>] = &[
-        (Call::Node(10), Answer::Node(0)),
-        (Call::Child(0, 100, 11), Answer::EdgeNode(0, 1)),
-        (Call::Child(0, 101, 12), Answer::EdgeNode(1, 2)),
-        (Call::RemoveNode(1), Answer::Weight(11)),
-        (Call::LendNode(1, 1), Answer::Nothing),
-        (Call::LendEdge(0, 1), Answer::Nothing),
-        (Call::LendNode(2, 1), Answer::Done),
-        (Call::LendEdge(1, 2), Answer::Done),
-        (Call::IndexNode(0, 3), Answer::Weight(3)),
-        (Call::Weight(2), Answer::Weight(1)),
-        (Call::Stored(1), Answer::Stored(0, 2, 2)),
-    ];
+    const ROWS: &str = "
+        node 10 = node 0
+        child 0 100 11 = edge_node 0 1
+        child 0 101 12 = edge_node 1 2
+        remove_node 1 = weight 11
+        lend_node 1 1 = nothing
+        lend_edge 0 1 = nothing
+        lend_node 2 1 = done
+        lend_edge 1 2 = done
+        index_node 0 3 = weight 3
+        weight 2 = weight 1
+        stored 1 = stored 0 2 2
+    ";
     stable(&rt, rt.alloc(), Scene::Rows(ROWS));
 }
