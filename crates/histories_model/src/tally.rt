@@ -52,17 +52,19 @@ impl Tally {
 
 impl fmt::Display for Tally {
     fn fmt<W: fmt::Write>(&self, f: &mut fmt::Formatter<W>) -> fmt::Result {
-        let (changes, batches, wholes) = (self.changes, self.batches, self.wholes);
-        let (queries, searches, works) = (self.queries, self.searches, self.works);
-        let (cycles, missing, full) = (self.cycles, self.missing, self.full);
-        write!(
-            f,
-            "changes {changes}, batches {batches}, whole dags {wholes}, "
-        )?;
-        writeln!(f, "queries {queries}, searches {searches}, work {works}")?;
-        write!(
-            f,
-            "refused: cycles {cycles}, missing nodes {missing}, no index left {full}"
-        )
+        entry(f, "changes ", self.changes)?;
+        entry(f, ", batches ", self.batches)?;
+        entry(f, ", whole dags ", self.wholes)?;
+        entry(f, ", queries ", self.queries)?;
+        entry(f, ", searches ", self.searches)?;
+        entry(f, ", work ", self.works)?;
+        entry(f, "\nrefused: cycles ", self.cycles)?;
+        entry(f, ", missing nodes ", self.missing)?;
+        entry(f, ", no index left ", self.full)
     }
+}
+
+fn entry<W: fmt::Write>(f: &mut fmt::Formatter<W>, name: &str, number: u64) -> fmt::Result {
+    f.write_str(name)?;
+    write!(f, "{number}")
 }

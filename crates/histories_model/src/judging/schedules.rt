@@ -106,10 +106,10 @@ fn are_shifts(shifts: &[(usize, u128, u128)], makespan: u128) -> bool {
 // Whether a makespan is within Graham's bound: the work that is shared by all workers, and the longest
 // path while all but one are idle.
 fn is_short(model: &Model, total: u128, count: usize, makespan: u128) -> Result<bool, AllocError> {
-    let Some(times) = model.times()? else {
+    let Some(longest) = model.makespan()? else {
         return Ok(false);
     };
     let count = count as u128;
-    let idle = u128::from(times.makespan).saturating_mul(count.saturating_sub(1));
+    let idle = u128::from(longest).saturating_mul(count.saturating_sub(1));
     Ok(makespan.saturating_mul(count) <= total.saturating_add(idle))
 }

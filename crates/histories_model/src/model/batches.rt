@@ -5,59 +5,88 @@ use crate::answer::Answer;
 use crate::calls::{Batch, Line, Part, Way, keeps};
 use std::alloc::AllocError;
 
+// How a batch of edges ends.
+#[derive(Clone, Copy)]
+enum Outcome {
+    Missing,
+    Full,
+    Cycle,
+    Added,
+}
+
 impl Model {
     pub(super) fn change_many(&mut self, batch: &Batch) -> Result<Answer, AllocError> {
         match batch {
             Batch::AddEdges(lines) => self.add_edges(lines.as_slice()),
             Batch::ExtendWithEdges(lines) => self.extend(lines.as_slice()),
-            Batch::FromEdges(lines) => {
-                let mut made = Model::new(self.alloc, self.removal, self.limit);
-                let answer = made.extend(lines.as_slice())?;
-                if answer == Answer::Done {
-                    *self = made;
-                }
-                Ok(answer)
-            }
-            Batch::FromElements(parts) => {
-                let mut made = Model::new(self.alloc, self.removal, self.limit);
-                let answer = made.add_parts(parts.as_slice())?;
-                if answer == Answer::Done {
-                    *self = made;
-                }
-                Ok(answer)
-            }
+            Batch::FromEdges(lines) => self.make_of_edges(lines.as_slice()),
+            Batch::FromElements(parts) => self.make_of_parts(parts.as_slice()),
             Batch::SetParents(n, items) => self.set_parents(*n, items.as_slice()),
             Batch::RetainNodes(salt) => self.retain_nodes(*salt),
             Batch::RetainEdges(salt) => self.retain_edges(*salt),
             Batch::TransitiveReduce(roots) => self.reduce(roots.as_slice()),
-            Batch::TransitiveReduceAll => {
-                let roots = self.existing()?;
-                self.reduce(roots.as_slice())
-            }
+            Batch::TransitiveReduceAll => self.reduce(self.existing()?.as_slice()),
+        }
+    }
+
+    fn make_of_edges(&mut self, lines: &[Line]) -> Result<Answer, AllocError> {
+        let mut made = Model::new(self.alloc, self.removal, self.limit);
+        let answer = made.extend(lines)?;
+        self.replace_if_done(made, &answer);
+        Ok(answer)
+    }
+
+    fn make_of_parts(&mut self, parts: &[Part]) -> Result<Answer, AllocError> {
+        let mut made = Model::new(self.alloc, self.removal, self.limit);
+        let answer = made.add_parts(parts)?;
+        self.replace_if_done(made, &answer);
+        Ok(answer)
+    }
+
+    fn replace_if_done(&mut self, made: Model, answer: &Answer) {
+        if let Answer::Done = answer {
+            *self = made;
         }
     }
 
     fn add_edges(&mut self, lines: &[Line]) -> Result<Answer, AllocError> {
-        let mut trial = self.clone()?;
         let mut weights = Vec::new(self.alloc);
         let mut added = Vec::new(self.alloc);
-        let mut is_cyclic = false;
+        let mut trial = self.clone()?;
+        Ok(match trial.add_each(lines, &mut weights, &mut added)? {
+            Outcome::Missing => Answer::BadEndpoint(weights),
+            Outcome::Full => Answer::Full(weights),
+            Outcome::Cycle => Answer::WouldCycle(weights),
+            Outcome::Added => {
+                *self = trial;
+                Answer::Indices(added)
+            }
+        })
+    }
+
+    // Adds edges until one has no end or no index. Their weights are noted, the last one first, and
+    // the indices of the new edges.
+    fn add_each(
+        &mut self,
+        lines: &[Line],
+        weights: &mut Vec<u64>,
+        added: &mut Vec<usize>,
+    ) -> Result<Outcome, AllocError> {
+        let mut outcome = Outcome::Added;
         for (a, b, weight) in lines {
             weights.insert(0, *weight)?;
-            if !trial.has_node(*a) || !trial.has_node(*b) {
-                return Ok(Answer::BadEndpoint(weights));
+            if !self.has_node(*a) || !self.has_node(*b) {
+                return Ok(Outcome::Missing);
             }
-            if trial.edge_count() >= trial.limit {
-                return Ok(Answer::Full(weights));
+            if self.edge_count() >= self.limit {
+                return Ok(Outcome::Full);
             }
-            is_cyclic = is_cyclic || trial.reaches(*b, *a)?;
-            added.push(trial.add_edge(*a, *b, *weight)?)?;
+            if self.reaches(*b, *a)? {
+                outcome = Outcome::Cycle;
+            }
+            added.push(self.add_edge(*a, *b, *weight)?)?;
         }
-        if is_cyclic {
-            return Ok(Answer::WouldCycle(weights));
-        }
-        *self = trial;
-        Ok(Answer::Indices(added))
+        Ok(outcome)
     }
 
     fn extend(&mut self, lines: &[Line]) -> Result<Answer, AllocError> {
@@ -114,29 +143,47 @@ impl Model {
 
     fn set_parents(&mut self, n: usize, items: &[(usize, u64)]) -> Result<Answer, AllocError> {
         let mut weights = Vec::new(self.alloc);
+        for (_, weight) in items {
+            weights.push(*weight)?;
+        }
+        Ok(match self.may_enter(n, items)? {
+            Outcome::Missing => Answer::Missing,
+            Outcome::Cycle => Answer::WouldCycle(weights),
+            Outcome::Full => Answer::Full(weights),
+            Outcome::Added => {
+                self.replace_parents(n, items)?;
+                Answer::Done
+            }
+        })
+    }
+
+    // Whether edges from some nodes to a node can be added.
+    fn may_enter(&self, n: usize, items: &[(usize, u64)]) -> Result<Outcome, AllocError> {
         let mut is_cyclic = false;
         let mut is_missing = !self.has_node(n);
-        for (parent, weight) in items {
-            weights.push(*weight)?;
+        for (parent, _) in items {
             is_missing = is_missing || !self.has_node(*parent);
             is_cyclic = is_cyclic || self.reaches(n, *parent)?;
         }
-        if is_missing {
-            return Ok(Answer::Missing);
-        }
-        if is_cyclic {
-            return Ok(Answer::WouldCycle(weights));
-        }
-        if self.edge_count().saturating_add(items.len()) > self.limit {
-            return Ok(Answer::Full(weights));
-        }
+        Ok(if is_missing {
+            Outcome::Missing
+        } else if is_cyclic {
+            Outcome::Cycle
+        } else if self.edge_count().saturating_add(items.len()) > self.limit {
+            Outcome::Full
+        } else {
+            Outcome::Added
+        })
+    }
+
+    fn replace_parents(&mut self, n: usize, items: &[(usize, u64)]) -> Result<(), AllocError> {
         let mut old = Vec::from_slice(self.alloc, self.parents_of(n))?;
         old.sort()?;
         for (parent, weight) in items {
             self.add_edge(*parent, n, *weight)?;
         }
         self.remove_downward(old.as_slice())?;
-        Ok(Answer::Done)
+        Ok(())
     }
 
     // Removes edges, the last one first.

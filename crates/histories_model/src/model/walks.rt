@@ -5,6 +5,53 @@ use crate::answer::Answer;
 use crate::calls::{Walk, Way};
 use std::alloc::AllocError;
 
+// A search, depth first.
+#[derive(Drop)]
+struct DepthFirst {
+    seen: Vec<bool>,
+    before: Vec<usize>,
+    after: Vec<usize>,
+    // The nodes from the first one to the current one, each with its neighbors that are left.
+    stack: Vec<(usize, Vec<usize>)>,
+}
+
+impl DepthFirst {
+    fn go(&mut self, model: &Model, n: usize, way: Way) -> Result<(), AllocError> {
+        self.seen.resize(model.nodes.len(), false)?;
+        if model.has_node(n) {
+            self.enter(model, n, way)?;
+        }
+        let steps = model.nodes.len().saturating_add(model.edges.len());
+        for _ in 0..steps {
+            self.step(model, way)?;
+        }
+        Ok(())
+    }
+
+    // Goes on from the current node, or back from it.
+    fn step(&mut self, model: &Model, way: Way) -> Result<(), AllocError> {
+        let Some((n, mut rest)) = self.stack.pop() else {
+            return Ok(());
+        };
+        match rest.pop() {
+            Some(other) => {
+                self.stack.push((n, rest))?;
+                self.enter(model, other, way)
+            }
+            None => Ok(self.after.push(n)?),
+        }
+    }
+
+    // Enters a node for the first time.
+    fn enter(&mut self, model: &Model, n: usize, way: Way) -> Result<(), AllocError> {
+        if mark(&mut self.seen, n) {
+            self.before.push(n)?;
+            self.stack.push((n, model.neighbors_reversed(n, way)?))?;
+        }
+        Ok(())
+    }
+}
+
 impl Model {
     /// A list of nodes. If several orders of them are right, it is in any order.
     pub(super) fn walk(&self, walk: &Walk) -> Result<Answer, AllocError> {
@@ -59,32 +106,14 @@ impl Model {
 
     // The nodes that a node reaches, depth first: in preorder and in postorder.
     fn depth_first(&self, n: usize, way: Way) -> Result<(Vec<usize>, Vec<usize>), AllocError> {
-        let mut seen = Vec::new(self.alloc);
-        seen.resize(self.nodes.len(), false)?;
-        let mut before = Vec::new(self.alloc);
-        let mut after = Vec::new(self.alloc);
-        // The nodes from the first one to the current one, each with its neighbors that are left.
-        let mut stack = Vec::new(self.alloc);
-        if self.has_node(n) && mark(&mut seen, n) {
-            before.push(n)?;
-            stack.push((n, self.neighbors_reversed(n, way)?))?;
-        }
-        let steps = self.nodes.len().saturating_add(self.edges.len());
-        for _ in 0..steps {
-            let Some((n, mut rest)) = stack.pop() else {
-                break;
-            };
-            let Some(other) = rest.pop() else {
-                after.push(n)?;
-                continue;
-            };
-            stack.push((n, rest))?;
-            if mark(&mut seen, other) {
-                before.push(other)?;
-                stack.push((other, self.neighbors_reversed(other, way)?))?;
-            }
-        }
-        Ok((before, after))
+        let mut search = DepthFirst {
+            seen: Vec::new(self.alloc),
+            before: Vec::new(self.alloc),
+            after: Vec::new(self.alloc),
+            stack: Vec::new(self.alloc),
+        };
+        search.go(self, n, way)?;
+        Ok((search.before, search.after))
     }
 
     fn neighbors_reversed(&self, n: usize, way: Way) -> Result<Vec<usize>, AllocError> {

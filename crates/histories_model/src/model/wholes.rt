@@ -95,21 +95,48 @@ impl Model {
         edges: &Vec<Option<Edge>>,
     ) -> Result<Model, AllocError> {
         let mut made = Model::new(self.alloc, self.removal, self.limit);
+        made.add_all(nodes, edges)?;
+        Ok(made)
+    }
+
+    fn add_all(
+        &mut self,
+        nodes: &Vec<Option<u64>>,
+        edges: &Vec<Option<Edge>>,
+    ) -> Result<(), AllocError> {
         let mut names = Vec::new(self.alloc);
+        self.add_nodes(nodes, &mut names)?;
+        self.add_edges_by(edges, &names)
+    }
+
+    // Adds nodes, and notes the index of each.
+    fn add_nodes(
+        &mut self,
+        nodes: &Vec<Option<u64>>,
+        names: &mut Vec<usize>,
+    ) -> Result<(), AllocError> {
         for node in nodes {
             names.push(match node {
-                Some(weight) => made.add_node(*weight)?,
+                Some(weight) => self.add_node(*weight)?,
                 None => 0,
             })?;
         }
+        Ok(())
+    }
+
+    fn add_edges_by(
+        &mut self,
+        edges: &Vec<Option<Edge>>,
+        names: &Vec<usize>,
+    ) -> Result<(), AllocError> {
         for edge in edges {
             if let Some(edge) = edge {
                 let parent = names.get(edge.parent).copied().unwrap_or(0);
                 let child = names.get(edge.child).copied().unwrap_or(0);
-                made.add_edge(parent, child, edge.weight)?;
+                self.add_edge(parent, child, edge.weight)?;
             }
         }
-        Ok(made)
+        Ok(())
     }
 
     // The nodes and edges in their slots, with lists in descending order. Of the vacant slots the last
@@ -120,28 +147,38 @@ impl Model {
         edges: &Vec<Option<Edge>>,
     ) -> Result<Model, AllocError> {
         let mut made = Model::new(self.alloc, self.removal, self.limit);
+        made.put_nodes(nodes)?;
+        made.put_edges(edges)?;
+        Ok(made)
+    }
+
+    fn put_nodes(&mut self, nodes: &Vec<Option<u64>>) -> Result<(), AllocError> {
         for (n, node) in nodes.iter().enumerate() {
-            made.nodes.push(*node)?;
-            made.outgoing.push(Vec::new(self.alloc))?;
-            made.incoming.push(Vec::new(self.alloc))?;
+            self.nodes.push(*node)?;
+            self.outgoing.push(Vec::new(self.alloc))?;
+            self.incoming.push(Vec::new(self.alloc))?;
             if node.is_none() {
-                made.vacant_nodes.push(n)?;
+                self.vacant_nodes.push(n)?;
             }
         }
+        Ok(())
+    }
+
+    fn put_edges(&mut self, edges: &Vec<Option<Edge>>) -> Result<(), AllocError> {
         for (e, edge) in edges.iter().enumerate() {
-            made.edges.push(*edge)?;
+            self.edges.push(*edge)?;
             let Some(edge) = edge else {
-                made.vacant_edges.push(e)?;
+                self.vacant_edges.push(e)?;
                 continue;
             };
-            if let Some(list) = made.outgoing.get_mut(edge.parent) {
+            if let Some(list) = self.outgoing.get_mut(edge.parent) {
                 list.insert(0, e)?;
             }
-            if let Some(list) = made.incoming.get_mut(edge.child) {
+            if let Some(list) = self.incoming.get_mut(edge.child) {
                 list.insert(0, e)?;
             }
         }
-        Ok(made)
+        Ok(())
     }
 
     /// The nodes and edges in their slots, with an edge reversed.

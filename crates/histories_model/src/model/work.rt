@@ -64,98 +64,144 @@ impl Model {
 
     // The latest finish of the parents of a node.
     fn ready_at(&self, n: usize, finishes: &Vec<u128>) -> Result<u128, AllocError> {
-        let mut latest = 0u128;
-        for parent in self.neighbors(n, Way::Up)?.iter() {
-            latest = latest.max(finishes.get(*parent).copied().unwrap_or(0));
+        self.longest_of(n, Way::Up, finishes)
+    }
+
+    // The greatest of the numbers that the neighbors of a node have.
+    fn longest_of(&self, n: usize, way: Way, numbers: &Vec<u128>) -> Result<u128, AllocError> {
+        let mut longest = 0u128;
+        for other in self.neighbors(n, way)?.iter() {
+            longest = longest.max(numbers.get(*other).copied().unwrap_or(0));
         }
-        Ok(latest)
+        Ok(longest)
     }
 
     /// When each node can start and finish at the earliest, and how much later it can start. `None` if
     /// some path takes 2^64 or more.
     pub fn times(&self) -> Result<Option<Times>, AllocError> {
-        let bound = self.node_bound();
-        let order = self.order_by(0)?;
         let mut finishes = Vec::new(self.alloc);
-        finishes.resize(bound, 0u128)?;
-        let mut makespan = 0u128;
-        for n in &order {
-            let weight = u128::from(self.node(*n).unwrap_or(0));
-            let finish = self.ready_at(*n, &finishes)?.saturating_add(weight);
-            put(&mut finishes, *n, finish);
-            makespan = makespan.max(finish);
-        }
-        // How long the longest path from each node takes.
         let mut tails = Vec::new(self.alloc);
-        tails.resize(bound, 0u128)?;
-        for n in order.iter().rev() {
-            let mut longest = 0u128;
-            for child in self.neighbors(*n, Way::Down)?.iter() {
-                longest = longest.max(tails.get(*child).copied().unwrap_or(0));
-            }
-            let weight = u128::from(self.node(*n).unwrap_or(0));
-            put(&mut tails, *n, longest.saturating_add(weight));
-        }
+        let makespan = self.measure(&mut finishes, &mut tails)?;
         if makespan > u128::from(u64::MAX) {
             return Ok(None);
         }
-        self.times_from(&finishes, &tails, makespan)
+        let mut times = Times {
+            starts: Vec::new(self.alloc),
+            finishes: Vec::new(self.alloc),
+            slack: Vec::new(self.alloc),
+            critical: Vec::new(self.alloc),
+            makespan: narrow(makespan),
+        };
+        self.note_times(&finishes, &tails, makespan, &mut times)?;
+        Ok(Some(times))
     }
 
-    fn times_from(
+    /// How long the longest path takes, if that is less than 2^64.
+    pub fn makespan(&self) -> Result<Option<u64>, AllocError> {
+        let mut finishes = Vec::new(self.alloc);
+        let makespan = self.finish_all(self.order_by(0)?.as_slice(), &mut finishes)?;
+        Ok(u64::try_from(makespan).ok())
+    }
+
+    // When each node finishes, and how long the longest path from it takes. Returns when all are
+    // finished.
+    fn measure(&self, finishes: &mut Vec<u128>, tails: &mut Vec<u128>) -> Result<u128, AllocError> {
+        let order = self.order_by(0)?;
+        let makespan = self.finish_all(order.as_slice(), finishes)?;
+        self.go_back(order.as_slice(), tails)?;
+        Ok(makespan)
+    }
+
+    fn finish_all(&self, order: &[usize], finishes: &mut Vec<u128>) -> Result<u128, AllocError> {
+        finishes.resize(self.node_bound(), 0u128)?;
+        let mut makespan = 0u128;
+        for n in order {
+            let weight = u128::from(self.node(*n).unwrap_or(0));
+            let finish = self.ready_at(*n, finishes)?.saturating_add(weight);
+            put(finishes, *n, finish);
+            makespan = makespan.max(finish);
+        }
+        Ok(makespan)
+    }
+
+    fn go_back(&self, order: &[usize], tails: &mut Vec<u128>) -> Result<(), AllocError> {
+        tails.resize(self.node_bound(), 0u128)?;
+        for n in order.iter().rev() {
+            let weight = u128::from(self.node(*n).unwrap_or(0));
+            let tail = self
+                .longest_of(*n, Way::Down, tails)?
+                .saturating_add(weight);
+            put(tails, *n, tail);
+        }
+        Ok(())
+    }
+
+    fn note_times(
         &self,
         ends: &Vec<u128>,
         tails: &Vec<u128>,
         makespan: u128,
-    ) -> Result<Option<Times>, AllocError> {
-        let mut starts = Vec::new(self.alloc);
-        let mut finishes = Vec::new(self.alloc);
-        let mut slack = Vec::new(self.alloc);
+        times: &mut Times,
+    ) -> Result<(), AllocError> {
         for (n, (end, tail)) in ends.iter().zip(tails.iter()).enumerate() {
-            let weight = self.node(n).map_or(0, u128::from);
-            let start = end.saturating_sub(weight);
+            let start = end.saturating_sub(u128::from(self.node(n).unwrap_or(0)));
             let spare = makespan.saturating_sub(start.saturating_add(*tail));
             let exists = self.has_node(n);
-            starts.push(narrow(start))?;
-            finishes.push(narrow(*end))?;
-            slack.push(if exists { narrow(spare) } else { 0 })?;
+            times.starts.push(narrow(start))?;
+            times.finishes.push(narrow(*end))?;
+            times.slack.push(if exists { narrow(spare) } else { 0 })?;
         }
-        Ok(Some(Times {
-            starts,
-            finishes,
-            slack,
-            critical: Vec::new(self.alloc),
-            makespan: narrow(makespan),
-        }))
+        Ok(())
     }
 
     // The nodes by the number of edges of the longest path that ends with them, and a path with a node
     // of each stage.
     fn stages(&self) -> Result<Answer, AllocError> {
-        let mut levels = Vec::new(self.alloc);
-        levels.resize(self.nodes.len(), 0usize)?;
         let mut stages: Vec<Vec<usize>> = Vec::new(self.alloc);
-        for n in self.order_by(0)?.iter() {
-            let mut level = 0usize;
-            for parent in self.neighbors(*n, Way::Up)?.iter() {
-                let above = levels.get(*parent).copied().unwrap_or(0);
-                level = level.max(above.saturating_add(1));
-            }
-            if let Some(slot) = levels.get_mut(*n) {
-                *slot = level;
-            }
-            if stages.len() <= level {
-                stages.push(Vec::new(self.alloc))?;
-            }
-            if let Some(stage) = stages.get_mut(level) {
-                stage.push(*n)?;
-            }
-        }
+        self.fill_stages(&mut stages)?;
         for stage in stages.as_mut_slice().iter_mut() {
             stage.sort()?;
         }
         let chain = self.chain(&stages)?;
         Ok(Answer::Stages(stages, chain))
+    }
+
+    fn fill_stages(&self, stages: &mut Vec<Vec<usize>>) -> Result<(), AllocError> {
+        let mut levels = Vec::new(self.alloc);
+        levels.resize(self.nodes.len(), 0usize)?;
+        for n in self.order_by(0)?.iter() {
+            let level = self.level_of(*n, &levels)?;
+            if let Some(slot) = levels.get_mut(*n) {
+                *slot = level;
+            }
+            self.put_on_stage(*n, level, stages)?;
+        }
+        Ok(())
+    }
+
+    // One more than the levels of the parents of a node, or 0.
+    fn level_of(&self, n: usize, levels: &Vec<usize>) -> Result<usize, AllocError> {
+        let mut level = 0usize;
+        for parent in self.neighbors(n, Way::Up)?.iter() {
+            let above = levels.get(*parent).copied().unwrap_or(0);
+            level = level.max(above.saturating_add(1));
+        }
+        Ok(level)
+    }
+
+    fn put_on_stage(
+        &self,
+        n: usize,
+        level: usize,
+        stages: &mut Vec<Vec<usize>>,
+    ) -> Result<(), AllocError> {
+        if stages.len() <= level {
+            stages.push(Vec::new(self.alloc))?;
+        }
+        if let Some(stage) = stages.get_mut(level) {
+            stage.push(n)?;
+        }
+        Ok(())
     }
 
     // The least node of the last stage, and before each node the least of its parents in the stage
