@@ -2,18 +2,12 @@
 use std::alloc::{AllocError, Global};
 use thiserror::Error;
 
-/// What a line adds to the sum.
-#[derive(Clone, Copy, Debug)]
-pub enum Word<'a> {
-    Number(i64),
-    Name(&'a str),
-}
-
-/// A line `name = term + term + ..`.
+/// A line `name = term + term + ..`: the sum of its numbers, and its names.
 #[derive(Debug, Drop)]
 pub struct Line<'a> {
     pub name: &'a str,
-    pub words: Vec<Word<'a>>,
+    pub sum: i128,
+    pub names: Vec<&'a str>,
 }
 
 /// Why a line changed nothing, or why the program has to end.
@@ -42,15 +36,6 @@ fn is_name(text: &str) -> bool {
         && text.chars().all(|c| c.is_alphanumeric() || c == '_')
 }
 
-/// Reads a term.
-fn parse_word(alloc: Global, text: &str) -> Result<Word<'_>, BadLine> {
-    match text.parse() {
-        Ok(number) => Ok(Word::Number(number)),
-        Err(_) if is_name(text) => Ok(Word::Name(text)),
-        Err(_) => Err(BadLine::NotATerm(String::from_str(alloc, text)?)),
-    }
-}
-
 /// Reads a line.
 pub fn parse(alloc: Global, text: &str) -> Result<Line<'_>, BadLine> {
     let (name, formula) = text.split_once('=').ok_or(BadLine::NoFormula)?;
@@ -58,9 +43,15 @@ pub fn parse(alloc: Global, text: &str) -> Result<Line<'_>, BadLine> {
     if !is_name(name) {
         return Err(BadLine::NotAName(String::from_str(alloc, name)?));
     }
-    let mut words = Vec::new(alloc);
-    for text in formula.split('+') {
-        words.push(parse_word(alloc, text.trim())?)?;
+    let mut sum = 0i128;
+    let mut names = Vec::new(alloc);
+    for term in formula.split('+') {
+        let term = term.trim();
+        match term.parse::<i64>() {
+            Ok(number) => sum = sum.saturating_add(i128::from(number)),
+            Err(_) if is_name(term) => names.push(term)?,
+            Err(_) => return Err(BadLine::NotATerm(String::from_str(alloc, term)?)),
+        }
     }
-    Ok(Line { name, words })
+    Ok(Line { name, sum, names })
 }

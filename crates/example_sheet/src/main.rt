@@ -57,10 +57,8 @@ fn take_line(
     if text.is_empty() || text.starts_with('#') {
         return Ok(());
     }
-    let line = parse(rt.alloc(), text)?;
-    let cell = sheet.set(line)?;
-    sheet.recalculate(rt, cell)?;
-    Ok(())
+    sheet.set(parse(rt.alloc(), text)?)?;
+    Ok(sheet.recalculate(rt)?)
 }
 
 /// Takes all lines, numbered from 1, and returns how many were bad. If `strict`, it stops at the

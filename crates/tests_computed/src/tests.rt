@@ -1,5 +1,7 @@
-//! Worked rows, for both kinds.
+//! Worked rows, for both kinds, and random changes beside a model.
 
+use crate::changes::plays_alike;
+use crate::model::{Formula as Part, Model};
 use crate::sheet::{
     Formula, add, has, invalidate, refreshes, refreshes_node, remove, set, set_parents, value,
 };
@@ -164,4 +166,28 @@ fn one_node_is_computed_on_demand(rt: HostRuntime) -> Result<(), Fail> {
     let alloc = rt.alloc();
     computes_one(&rt, alloc, ComputedDag::new(alloc))?;
     computes_one(&rt, alloc, StableComputedDag::new(alloc))
+}
+
+// Random changes beside a model. Of the nodes that are computed, some have the value that they had.
+fn plays<S: Store<u32, NodeWeight = Part, EdgeWeight = ()>>(
+    rt: &impl Abort,
+    alloc: Global,
+    mut sheet: Computed<Part, i64, (), u32, S>,
+) -> Result<(), Fail> {
+    let mut model = Model::new(alloc)?;
+    assert!(rt; plays_alike(alloc, &mut sheet, &mut model, 3_000)?);
+    assert!(rt; model.computed > 1_000 && model.kept > 100);
+    Ok(())
+}
+
+#[test]
+fn a_model_agrees(rt: HostRuntime) -> Result<(), Fail> {
+    let alloc = rt.alloc();
+    plays(&rt, alloc, ComputedDag::new(alloc))
+}
+
+#[test]
+fn a_model_agrees_with_the_stable_kind(rt: HostRuntime) -> Result<(), Fail> {
+    let alloc = rt.alloc();
+    plays(&rt, alloc, StableComputedDag::new(alloc))
 }
