@@ -97,3 +97,49 @@ pub fn asked_pairs(nodes: u32) -> Vec<(u32, u32)> {
         .map(|_| (random.below(nodes), random.below(nodes)))
         .collect()
 }
+
+/// How the edges of a graph that may have cycles are chosen.
+#[derive(Clone, Copy)]
+pub enum Shape {
+    /// Between any two nodes.
+    Mixed,
+    /// Half of them between nodes of a group of ten, and the others to nodes that are no lower.
+    Grouped,
+    /// From lower nodes to higher ones.
+    Acyclic,
+}
+
+impl Shape {
+    /// The parts of a name: what stands before the shape, and the shape.
+    pub fn split(name: &str) -> Option<(&str, Shape)> {
+        let (question, shape) = name.rsplit_once('_')?;
+        match shape {
+            "mixed" => Some((question, Shape::Mixed)),
+            "grouped" => Some((question, Shape::Grouped)),
+            "acyclic" => Some((question, Shape::Acyclic)),
+            _ => None,
+        }
+    }
+
+    /// The ends of one more edge, if they are chosen well.
+    fn pair(self, random: &mut Random, nodes: u32) -> Option<(u32, u32)> {
+        let a = random.below(nodes);
+        let b = random.below(nodes);
+        match self {
+            Shape::Mixed => Some((a, b)),
+            Shape::Grouped if random.below(2) == 0 => {
+                Some((a, (a - a % 10 + b % 10).min(nodes - 1)))
+            }
+            Shape::Grouped => Some((a.min(b), a.max(b))),
+            Shape::Acyclic => (a != b).then_some((a.min(b), a.max(b))),
+        }
+    }
+
+    pub fn pairs(self, nodes: u32, edges: usize) -> Vec<(u32, u32)> {
+        let mut random = Random::new(1);
+        std::iter::repeat_with(|| self.pair(&mut random, nodes))
+            .flatten()
+            .take(edges)
+            .collect()
+    }
+}

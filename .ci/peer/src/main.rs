@@ -3,6 +3,7 @@
 //! these, `--kind stable` selects a stable graph, `--reps COUNT` the median of COUNT runs, and
 //! `--rounds COUNT` how often a run goes through a graph (10).
 
+mod components;
 mod inputs;
 mod questions;
 mod reductions;
@@ -98,10 +99,21 @@ fn processor_seconds() -> f64 {
 
 /// Runs `run` `reps` times. Returns the median of the times, and the result of the last run.
 fn median<T>(reps: usize, mut run: impl FnMut() -> T) -> (f64, T) {
+    median_after(reps, || (), |()| run())
+}
+
+/// Runs `run` `reps` times, on what `make` returns, which is not timed. Returns the median of the times, and the result of the
+/// last run.
+fn median_after<A, T>(
+    reps: usize,
+    mut make: impl FnMut() -> A,
+    mut run: impl FnMut(A) -> T,
+) -> (f64, T) {
     let mut times = Vec::new();
     loop {
+        let made = make();
         let start = processor_seconds();
-        let result = run();
+        let result = run(made);
         times.push(processor_seconds() - start);
         if times.len() == reps {
             times.sort_by(f64::total_cmp);
@@ -191,6 +203,9 @@ fn run_built(request: &Request, pairs: &[(u32, u32)]) -> Option<(f64, u64)> {
 fn main() {
     let words: Vec<String> = std::env::args().skip(1).collect();
     let figures = Request::of_words(&words).and_then(|request| {
+        if let Some((time, check)) = components::run(&request) {
+            return Some((request, time, check));
+        }
         if let Some(pairs) = reductions::pairs_of(&request) {
             let (time, check) = reductions::reduce(&request, &pairs);
             return Some((request, time, check));

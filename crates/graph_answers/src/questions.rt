@@ -2,6 +2,7 @@
 ghost use Rattle.std.specs.Prelude.{OnErr, ◌≡◌};
 ghost use Rattle.daggy_components.specs.Components.{AreComponents};
 
+use crate::dags::{Members, Tally, write_all_edges, write_folded};
 use anyhow::{Result, bail};
 use daggy_base::index::{EdgeIndex, NodeIndex};
 use daggy_base::read_store::ReadStore;
@@ -55,12 +56,13 @@ pub fn add_edge<S: Store<u32, NodeWeight = (), EdgeWeight = ()>>(
     Ok(())
 }
 
-/// Writes all answers.
-pub fn write_answers<S: Store<u32, NodeWeight = (), EdgeWeight = ()>, W: Write>(
-    alloc: Global,
-    out: &mut W,
-    asked: &Asked<S>,
-) -> Result<()> {
+/// Writes all answers. The dags have the stores `T` and `U`.
+pub fn write_answers<S, T, U, W: Write>(alloc: Global, out: &mut W, asked: &Asked<S>) -> Result<()>
+where
+    S: Store<u32, NodeWeight = (), EdgeWeight = ()>,
+    T: Store<u32, NodeWeight = Members, EdgeWeight = EdgeIndex<u32>>,
+    U: Store<u32, NodeWeight = Members, EdgeWeight = Tally>,
+{
     let graph = &asked.graph;
     let components = strongly_connected_components(alloc, &mut Reading::new(graph))?;
     write!(out, "components:")?;
@@ -68,6 +70,8 @@ pub fn write_answers<S: Store<u32, NodeWeight = (), EdgeWeight = ()>, W: Write>(
     write!(out, "weak:")?;
     write_components(out, &weakly_connected_components(alloc, graph)?)?;
     write_condensation(alloc, out, graph, &components)?;
+    write_all_edges::<S, T, W>(alloc, out, graph, &components)?;
+    write_folded::<S, U, W>(alloc, out, graph, &components)?;
     write!(out, "cycle:")?;
     write_nodes(out, find_cycle(alloc, &mut Reading::new(graph))?.as_ref())?;
     write!(out, "edges:")?;
