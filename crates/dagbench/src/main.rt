@@ -1,7 +1,8 @@
 //! A graph that is driven by lines of commands, from standard input to standard output.
 #![tactic(auto)]
 
-use dagbench_engine::{Device, Stop, ending, mode_of, serve};
+use dagbench_engine::{Device, Stop, ending, explain, mode_of, serve};
+use std::io::{BufRead, BufReader};
 use std::process::ExitCode;
 use std::rt::Env;
 use std::{env, io};
@@ -16,18 +17,12 @@ writes one reply a line to standard output.
   compact    a removal moves the last node or edge into the freed index
   stable     a removal changes no other index
   plan KIND  the same, with a plan of the dag after the last reply
+  --explain  carries out nothing, and writes to standard error the number of
+             each line that is no command, and why it is none
 
 For example, `node 7` adds a node of weight 7, `edge 0 1 5` an edge of weight 5
 from node 0 to node 1, and `children 0` lists the children of node 0.
 ";
-
-/// Whether the only argument asks for help.
-fn asks_for_help(words: &[String]) -> bool {
-    match words.first() {
-        Some(word) => words.len() == 1 && (word.as_str() == "--help" || word.as_str() == "-h"),
-        None => false,
-    }
-}
 
 /// The arguments after the program's name.
 fn arguments(rt: &(impl Env + AllocGlobal)) -> io::Result<Vec<String>> {
@@ -36,16 +31,50 @@ fn arguments(rt: &(impl Env + AllocGlobal)) -> io::Result<Vec<String>> {
     Ok(words.collect(rt.alloc())?)
 }
 
-/// Serves standard input and output, or prints the help. None for wrong arguments. Arguments that
-/// are no text are wrong.
-fn run(rt: &(impl Env + AllocGlobal + Input + Print)) -> Option<Result<(), Stop>> {
+/// The only argument, or an empty text.
+fn only_argument(words: &[String]) -> &str {
+    match words {
+        [word] => word.as_str(),
+        _ => "",
+    }
+}
+
+/// Why a call of std stopped the run.
+fn stop_of(error: io::Error) -> Stop {
+    if error.kind() == io::ErrorKind::OutOfMemory {
+        Stop::Memory
+    } else {
+        Stop::Read
+    }
+}
+
+/// Writes which lines of standard input are no commands, and why, to standard error.
+fn explain_lines(rt: &(impl AllocGlobal + Input + Eprint)) -> Result<(), Stop> {
+    let Ok(input) = BufReader::new(rt.alloc(), rt.reader()) else {
+        return Err(Stop::Memory);
+    };
+    let mut number = 0u64;
+    for line in input.split(rt.alloc(), b'\n') {
+        let line = line.map_err(stop_of)?;
+        number = number.saturating_add(1);
+        if let Some(why) = explain(rt.alloc(), line.as_slice()) {
+            eprintln!(rt; "line {number}: {why}").map_err(|_| Stop::Write)?;
+        }
+    }
+    Ok(())
+}
+
+/// Does what the arguments ask for. None for wrong arguments. Arguments that are no text are wrong.
+fn run(rt: &(impl Env + AllocGlobal + Input + Print + Eprint)) -> Option<Result<(), Stop>> {
     let words = match arguments(rt) {
         Ok(words) => words,
         Err(error) if error.kind() == io::ErrorKind::OutOfMemory => return Some(Err(Stop::Memory)),
         Err(_) => return None,
     };
-    if asks_for_help(words.as_slice()) {
-        return Some(rt.print(HELP).map_err(|_| Stop::Write));
+    match only_argument(words.as_slice()) {
+        "--help" | "-h" => return Some(rt.print(HELP).map_err(|_| Stop::Write)),
+        "--explain" => return Some(explain_lines(rt)),
+        _ => {}
     }
     let mode = mode_of(words.as_slice())?;
     let mut source = Device::new(rt.reader());

@@ -14,6 +14,7 @@ mod session;
 mod stop;
 
 pub use dagbench_lines::device::Device;
+pub use dagbench_lines::explain::{BadLine, Operand, explain};
 pub use dagbench_lines::memory::{MemorySink, MemorySource};
 pub use dagbench_lines::stream::{Fault, Sink, Source};
 pub use mode::{Mode, mode_of};

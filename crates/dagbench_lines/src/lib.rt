@@ -7,6 +7,7 @@
 
 pub mod device;
 mod edge_list;
+pub mod explain;
 mod history;
 pub mod line;
 pub mod memory;

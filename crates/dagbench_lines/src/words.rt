@@ -72,7 +72,7 @@ fn number(word: &[u8], most: usize) -> Option<u64>
 }
 
 /// The index in a word.
-fn index(word: &[u8]) -> Option<u32>
+pub fn index(word: &[u8]) -> Option<u32>
     ensures { result ≡ index_of word.now }
 {
     let number = number(word, 10)?;
@@ -80,7 +80,7 @@ fn index(word: &[u8]) -> Option<u32>
 }
 
 /// The weight in a word.
-fn weight(word: &[u8]) -> Option<i64>
+pub fn weight(word: &[u8]) -> Option<i64>
     ensures { result ≡ weight_of word.now }
 {
     let (first, behind) = word.split_first()?;

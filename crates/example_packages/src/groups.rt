@@ -68,6 +68,39 @@ impl<'a> Groups<'a> {
         self.dag.node_weight(group).map_or(&[], Vec::as_slice)
     }
 
+    /// Keeps only the groups of these packages, and those that they need.
+    pub fn keep(&mut self, packages: &[NodeIndex]) -> Result<()> {
+        let mut groups = self.groups_of(packages)?;
+        let needed = self.dag.ancestors(groups.as_slice())?;
+        groups.extend_from_slice(needed.as_slice())?;
+        let mut kept = vec![in self.alloc; false; self.dag.node_count()]?;
+        for group in groups.as_slice() {
+            if let Some(keeps) = kept.get_mut(group.index()) {
+                *keeps = true;
+            }
+        }
+        let kept = kept.as_slice();
+        self.dag
+            .retain_nodes(|group, _| kept.get(group.index()) == Some(&true));
+        Ok(())
+    }
+
+    /// The groups that have one of these packages.
+    fn groups_of(&self, packages: &[NodeIndex]) -> Result<Vec<NodeIndex>, AllocError> {
+        let mut groups = Vec::new(self.alloc);
+        for group in self.dag.node_indices() {
+            if self.packages(group).iter().any(|n| packages.contains(n)) {
+                groups.push(group)?;
+            }
+        }
+        Ok(groups)
+    }
+
+    /// Removes each edge whose ends a longer path joins.
+    pub fn reduce(&mut self) -> Result<()> {
+        Ok(self.dag.transitive_reduce_all()?)
+    }
+
     fn schedule(&self) -> Result<Schedule> {
         Ok(Schedule::new(self.alloc, &self.dag, |_, packages| {
             self.needs.size(packages.as_slice())

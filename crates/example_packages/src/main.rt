@@ -8,10 +8,12 @@ mod groups;
 mod needs;
 mod status;
 
+use crate::groups::Groups;
 use crate::needs::Needs;
 use crate::status::{BadLine, Packages};
 use anyhow::{Context, Result};
 use clap::{Arg, ArgAction, ArgMatches, Command};
+use daggy::NodeIndex;
 use std::alloc::{AllocError, Global};
 use std::io::{BufRead, BufReader, Read};
 use std::process::ExitCode;
@@ -28,10 +30,11 @@ installed together. All other packages that a group needs are in earlier stages,
 into fewer stages is possible. The last line is the chain of groups with the greatest total size.
 
 Each group of several packages is reported on standard error, with a shortest cycle through one of \
-its packages. So are dependencies that no package meets, and bad lines.
+its packages. So are dependencies that no package meets, and bad lines. Of packages with the same name \
+the first counts, and the others are bad lines.
 
 Exit status: 0 if every line was good, 1 if one was bad, 2 if the arguments are wrong, the input \
-cannot be read, or memory runs out.";
+cannot be read, or memory runs out, 3 if --only names a package that is not installed.";
 
 /// The command line.
 fn command<'a>(alloc: Global) -> Result<Command<'a>, AllocError> {
@@ -39,6 +42,16 @@ fn command<'a>(alloc: Global) -> Result<Command<'a>, AllocError> {
         .long("dot")
         .action(ArgAction::SetTrue)
         .help("Print a picture for graphviz instead of the stages");
+    let reduced = Arg::new(alloc, "reduced")
+        .long("reduced")
+        .action(ArgAction::SetTrue)
+        .help("Leave out of the picture each edge whose ends a longer path joins")
+        .requires_arg("dot")?;
+    let only = Arg::new(alloc, "only")
+        .long("only")
+        .value_name("NAME")
+        .action(ArgAction::Append)
+        .help("Take only this package and what it needs; may be given more than once");
     let file = Arg::new(alloc, "file")
         .value_name("FILE")
         .help("The file to read [default: standard input]");
@@ -46,6 +59,8 @@ fn command<'a>(alloc: Global) -> Result<Command<'a>, AllocError> {
         .about("Prints the packages of a Debian system in stages, each after what it needs.")
         .after_help(DETAILS)
         .arg(dot)?
+        .arg(reduced)?
+        .arg(only)?
         .arg(file)
 }
 
@@ -60,7 +75,7 @@ fn read<R: Read + Drop>(
     let mut bad = 0u64;
     for line in input.split(rt.alloc(), b'\n') {
         number = number.checked_add(1).context("too many lines")?;
-        match packages.take_line(line?.as_slice()) {
+        match packages.take_line(number, line?.as_slice()) {
             Ok(()) => {}
             Err(BadLine::Memory(error)) => return Err(error.into()),
             Err(error) => {
@@ -87,22 +102,44 @@ fn read_input(
     }
 }
 
-/// Reads the packages, prints what the options say, and returns whether every line was good.
+/// Reads the packages, prints what the options say, and returns the exit status.
 fn print(
     rt: &(impl Files + Input + Print + Eprint + AllocGlobal),
     matches: &ArgMatches<'_>,
-) -> Result<bool> {
+) -> Result<u8> {
     let mut packages = Packages::new(rt.alloc());
-    let bad = read_input(rt, matches, &mut packages)?;
-    let needs = Needs::of(rt, packages.as_slice())?;
-    let groups = needs.groups()?;
-    groups.report(rt)?;
-    if matches.get_flag("dot") {
-        groups.draw(rt)?;
-    } else {
-        groups.print(rt)?;
+    let mut bad = read_input(rt, matches, &mut packages)?;
+    let needs = Needs::of(rt, packages.as_slice(), &mut bad)?;
+    let names = matches.get_strs("only").unwrap_or(&[]);
+    let named = needs.all_named(rt, names)?;
+    if named.len() < names.len() {
+        return Ok(3);
     }
-    Ok(bad == 0)
+    let mut groups = needs.groups()?;
+    print_groups(rt, matches, named.as_slice(), &mut groups)?;
+    Ok(if bad == 0 { 0 } else { 1 })
+}
+
+/// Prints the groups that the options ask for. If packages are named, these are only their groups and
+/// those that they need.
+fn print_groups(
+    rt: &(impl Print + Eprint),
+    matches: &ArgMatches<'_>,
+    named: &[NodeIndex],
+    groups: &mut Groups<'_>,
+) -> Result<()> {
+    if !named.is_empty() {
+        groups.keep(named)?;
+    }
+    groups.report(rt)?;
+    if matches.get_flag("reduced") {
+        groups.reduce()?;
+    }
+    if matches.get_flag("dot") {
+        groups.draw(rt)
+    } else {
+        groups.print(rt)
+    }
 }
 
 /// Runs the program, and returns its exit status.
@@ -115,7 +152,7 @@ fn run(rt: &(impl Env + Files + Input + Print + Eprint + AllocGlobal)) -> Result
             return Ok(if error.use_stderr() { 2 } else { 0 });
         }
     };
-    Ok(if print(rt, &matches)? { 0 } else { 1 })
+    print(rt, &matches)
 }
 
 fn main(rt: HostRuntime) -> ExitCode {

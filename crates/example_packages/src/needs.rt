@@ -1,18 +1,20 @@
 //! Which package needs which.
 use crate::groups::Groups;
-use crate::status::Package;
+use crate::status::{Need, Package};
 use anyhow::{Result, bail};
 use daggy::NodeIndex;
 use daggy::components::{condensed_dag, shortest_cycle, strongly_connected_components};
 use daggy::graph::DiGraph;
 use daggy::search::Reading;
 use std::alloc::{AllocError, Global};
-use std::collections::HashMap;
+use std::collections::{HashMap, HashSet};
 
 /// An installed package.
 #[derive(Debug, Drop)]
 pub struct Installed {
     pub name: String,
+    /// The number of the line that has its name.
+    line: u64,
     /// How much it takes, in kB.
     pub size: u64,
 }
@@ -28,25 +30,40 @@ pub struct Needs {
 }
 
 impl Needs {
-    /// What the installed packages of a list need. What cannot be met is reported.
-    pub fn of(rt: &(impl Eprint + AllocGlobal), packages: &[Package]) -> Result<Needs> {
+    /// What the installed packages of a list need. What cannot be met is reported, and so is each
+    /// package of a name that another has before it, which is left out; `bad` counts these.
+    pub fn of(
+        rt: &(impl Eprint + AllocGlobal),
+        packages: &[Package],
+        bad: &mut u64,
+    ) -> Result<Needs> {
         let mut needs = Needs {
             alloc: rt.alloc(),
             graph: DiGraph::new(rt.alloc()),
             indices: HashMap::new(rt.alloc()),
             providers: HashMap::new(rt.alloc()),
         };
-        for package in packages {
-            if package.installed {
-                needs.add(package)?;
-            }
-        }
-        for package in packages {
-            if package.installed {
-                needs.depend_all(rt, package)?;
-            }
-        }
+        needs.fill(rt, packages, bad)?;
         Ok(needs)
+    }
+
+    fn fill(
+        &mut self,
+        rt: &(impl Eprint + AllocGlobal),
+        packages: &[Package],
+        bad: &mut u64,
+    ) -> Result<()> {
+        for package in packages {
+            if package.installed && !self.add(rt, package)? {
+                *bad = bad.saturating_add(1);
+            }
+        }
+        for package in packages {
+            if package.installed {
+                self.depend_all(rt, package)?;
+            }
+        }
+        Ok(())
     }
 
     pub fn name(&self, n: NodeIndex) -> &str {
@@ -65,16 +82,23 @@ impl Needs {
         sum
     }
 
-    /// Adds a package, without what it needs.
-    fn add(&mut self, package: &Package) -> Result<()> {
-        let n = match self.indices.get(&package.name) {
-            Some(n) => *n,
-            None => self.add_new(package)?,
-        };
+    /// Adds a package, without what it needs. Returns false if another before it has its name.
+    fn add(&mut self, rt: &impl Eprint, package: &Package) -> Result<bool> {
+        if let Some(first) = self.installed(&package.name) {
+            let Package { name, line, .. } = package;
+            eprintln!(rt; "line {line}: {name} is in line {} already", first.line)?;
+            return Ok(false);
+        }
+        let n = self.add_new(package)?;
         for other in package.provides.as_slice() {
             self.providers.insert(other.clone()?, n)?;
         }
-        Ok(())
+        Ok(true)
+    }
+
+    /// The package of this name.
+    fn installed(&self, name: &String) -> Option<&Installed> {
+        self.graph.node_weight(*self.indices.get(name)?)
     }
 
     /// Adds a package with a name that no other has.
@@ -84,34 +108,56 @@ impl Needs {
         }
         let n = self.graph.add_node(Installed {
             name: package.name.clone()?,
+            line: package.line,
             size: package.size,
         })?;
         self.indices.insert(package.name.clone()?, n)?;
         Ok(n)
     }
 
+    /// The package of this name, or the one that provides it.
+    fn named(&self, name: &str) -> Option<NodeIndex> {
+        match self.indices.get(name) {
+            Some(n) => Some(*n),
+            None => self.providers.get(name).copied(),
+        }
+    }
+
+    /// The packages of these names, or that provide them. Names that are unknown are reported.
+    pub fn all_named(&self, rt: &impl Eprint, names: &[&str]) -> Result<Vec<NodeIndex>> {
+        let mut packages = Vec::new(self.alloc);
+        for name in names {
+            match self.named(name) {
+                Some(n) => packages.push(n)?,
+                None => eprintln!(rt; "no package {name:?} is installed")?,
+            }
+        }
+        Ok(packages)
+    }
+
     /// The first of some alternatives that is installed, or the package that provides it.
     fn found(&self, alternatives: &[String]) -> Option<NodeIndex> {
         for name in alternatives {
-            if let Some(n) = self.indices.get(name) {
-                return Some(*n);
-            }
-            if let Some(provider) = self.providers.get(name) {
-                return Some(*provider);
+            if let Some(n) = self.named(name.as_str()) {
+                return Some(n);
             }
         }
         None
     }
 
-    /// Adds what a package needs.
-    fn depend_all(&mut self, rt: &impl Eprint, package: &Package) -> Result<()> {
+    /// Adds what a package needs, unless it was left out.
+    fn depend_all(&mut self, rt: &(impl Eprint + AllocGlobal), package: &Package) -> Result<()> {
         let Some(n) = self.indices.get(&package.name).copied() else {
             return Ok(());
         };
-        for alternatives in package.needs.as_slice() {
-            match self.found(alternatives.as_slice()) {
+        if self.graph.node_weight(n).map_or(0, |it| it.line) != package.line {
+            return Ok(());
+        }
+        let mut unmet = HashSet::new(self.alloc);
+        for need in package.needs.as_slice() {
+            match self.found(need.alternatives.as_slice()) {
                 Some(needed) => self.depend(needed, n)?,
-                None => report_unmet(rt, package, alternatives.as_slice())?,
+                None => report_unmet(rt, package, need, &mut unmet)?,
             }
         }
         Ok(())
@@ -153,12 +199,25 @@ impl Needs {
     }
 }
 
-/// Reports that none of some alternatives is installed.
-fn report_unmet(rt: &impl Eprint, package: &Package, alternatives: &[String]) -> Result<()> {
-    eprint!(rt; "{} needs", package.name)?;
-    for (i, name) in alternatives.iter().enumerate() {
-        eprint!(rt; "{} {name}", if i == 0 { "" } else { " |" })?;
+/// Reports that none of some alternatives is installed, once for each package. What was reported is
+/// in `unmet`.
+fn report_unmet(
+    rt: &(impl Eprint + AllocGlobal),
+    package: &Package,
+    need: &Need,
+    unmet: &mut HashSet<String>,
+) -> Result<()> {
+    let mut names = String::new(rt.alloc());
+    for (i, name) in need.alternatives.as_slice().iter().enumerate() {
+        write!(names, "{}{name}", if i == 0 { "" } else { " | " })?;
     }
-    eprintln!(rt; ", not installed")?;
+    if !unmet.contains(&names) {
+        let Need { line, .. } = need;
+        eprintln!(rt;
+            "line {line}: {} needs {names}, not installed",
+            package.name
+        )?;
+        unmet.insert(names)?;
+    }
     Ok(())
 }

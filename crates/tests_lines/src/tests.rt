@@ -4,6 +4,7 @@
 
 mod devices;
 mod endings;
+mod explanations;
 mod random;
 mod refusals;
 mod runs;
