@@ -1,8 +1,8 @@
 //! Pictures of dags and graphs, in the language of graphviz.
 //!
 //! [`Dot`] displays a dag or a store, so `println!` or `format!` writes it. The labels are the
-//! weights ([`WeightLabels`]), none ([`NoLabels`]), or what a [`Label`] of your own writes. Closures
-//! give attributes, such as a color, and boxes around nodes.
+//! weights ([`WeightLabels`]), none ([`NoLabels`]), or what a [`Label`] of your own writes.
+//! Closures add attributes, such as a color, and boxes around nodes.
 pub use daggy_dot::{
     Attribute, Both, Clusters, Dot, Label, NoLabels, RankDir, WeightLabels, write_attribute,
     write_label,

@@ -15,11 +15,11 @@
 //!
 //! In a `Dag` a removal moves the last element into the freed index. The dag of [`stable_dag`]
 //! keeps the indices of everything else. Both are an [`Acyclic`] over a [`Store`], so that code can
-//! be written for either; code that only reads is bounded by [`ReadStore`].
+//! be written for either; code that only reads has the bound [`ReadStore`].
 //!
 //! - [`named`]: dags whose nodes have keys, and whose methods require nothing; [`computed`]: dags
 //!   whose nodes have formulas and values.
-//! - [`operators`]: a part of a dag as a dag, and reversed dags.
+//! - [`operators`]: subgraphs of a dag, and reversed dags.
 //! - [`schedule`]: ready queues, schedules and orders by keys; [`run`]: plans in stages, and lists
 //!   of commands.
 //! - [`traversal`]: breadth first and depth first; [`walker`]: walks along edges, and their

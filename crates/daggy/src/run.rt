@@ -1,5 +1,5 @@
-//! Lists of commands over a dag of either kind, each with its reply, and plans of its nodes in
-//! stages.
+//! Running lists of commands on a dag of either kind, with a reply to each, and planning its nodes
+//! in stages.
 //!
 //! [`run`] carries out a list of [`Command`]s, and [`perform`] one of them; both test what the
 //! methods of a dag require. [`plan`] puts the nodes into the fewest possible stages.

@@ -1,4 +1,4 @@
-//! Walks over the nodes that a node reaches: breadth first, depth first, and in postorder.
+//! Walks over the nodes reachable from a node: breadth first, depth first, and in postorder.
 //!
 //! Each goes along the edges or against them, over the graph of a dag or over any store, and is a
 //! [`Walker`](crate::Walker): it borrows the graph only while it takes a step.

@@ -3,12 +3,51 @@
 use crate::index::{DefaultIx, EdgeIndex, IndexType, NodeIndex};
 
 /// An edge, and a node that it leads to or comes from.
+///
+/// # Examples
+///
+/// ```
+/// let mut dag: Dag<u32, u32> = Dag::new(rt.alloc());
+/// let sow = dag.add_node(1)?;
+/// let reap: Neighbor<u32> = dag.add_child(sow, 90, 2)?;
+/// match perform(&mut dag, Command::Children(sow)) {
+///     Reply::Walk(children) => assert!(rt; children.as_slice() == [reap].as_slice()),
+///     _ => assert!(rt; false),
+/// }
+/// ```
 pub type Neighbor<Ix> = (EdgeIndex<Ix>, NodeIndex<Ix>);
 
 /// An edge to be added: its parent, its child and its weight.
+///
+/// # Examples
+///
+/// ```
+/// let mut dag: Dag<u32, u32> = Dag::new(rt.alloc());
+/// let sow = dag.add_node(1)?;
+/// let reap = dag.add_node(2)?;
+/// let edge: NewEdge<u32, u32> = (sow, reap, 90);
+/// let edges = Vec::from_array(rt.alloc(), [edge])?;
+/// match perform(&mut dag, Command::Edges(edges)) {
+///     Reply::Edges(added) => assert!(rt; added.as_slice() == [EdgeIndex::new(0)].as_slice()),
+///     _ => assert!(rt; false),
+/// }
+/// ```
 pub type NewEdge<E, Ix> = (NodeIndex<Ix>, NodeIndex<Ix>, E);
 
 /// A command to a dag. Indices need not exist.
+///
+/// # Examples
+///
+/// ```
+/// let mut dag: Dag<u32, u32> = Dag::new(rt.alloc());
+/// let sow = NodeIndex::new(0);
+/// assert!(rt; perform(&mut dag, Command::Node(1)) == Reply::Node(sow));
+/// let reap = NodeIndex::new(1);
+/// let days = EdgeIndex::new(0);
+/// let reply = perform(&mut dag, Command::Child(sow, 90, 2));
+/// assert!(rt; reply == Reply::EdgeNode(days, reap));
+/// assert!(rt; perform(&mut dag, Command::Find(sow, reap)) == Reply::Found(Some(days)));
+/// ```
 #[derive(Debug, Drop, PartialEq)]
 pub enum Command<N, E, Ix: IndexType = DefaultIx> {
     /// Add a node of this weight.
@@ -17,9 +56,9 @@ pub enum Command<N, E, Ix: IndexType = DefaultIx> {
     Edge(NodeIndex<Ix>, NodeIndex<Ix>, E),
     /// Write the weight of the newest edge between two nodes, or add an edge if there is none.
     Update(NodeIndex<Ix>, NodeIndex<Ix>, E),
-    /// Add a child of a node: the weight of the edge, then that of the new node.
+    /// Add a child of a node: the node, the weight of the edge, and the weight of the new node.
     Child(NodeIndex<Ix>, E, N),
-    /// Add a parent of a node: the weight of the edge, then that of the new node.
+    /// Add a parent of a node: the node, the weight of the edge, and the weight of the new node.
     Parent(NodeIndex<Ix>, E, N),
     /// Add all these edges, or none.
     Edges(Vec<NewEdge<E, Ix>>),
@@ -44,6 +83,16 @@ pub enum Command<N, E, Ix: IndexType = DefaultIx> {
 }
 
 /// The reply to a command.
+///
+/// # Examples
+///
+/// ```
+/// let mut dag: Dag<u32, u32> = Dag::new(rt.alloc());
+/// let sow = dag.add_node(1)?;
+/// assert!(rt; perform(&mut dag, Command::Edge(sow, sow, 5)) == Reply::Cycle(5));
+/// assert!(rt; perform(&mut dag, Command::RemoveNode(sow)) == Reply::NodeGone(Some(1)));
+/// assert!(rt; perform(&mut dag, Command::RemoveNode(sow)) == Reply::NodeGone(None));
+/// ```
 #[derive(Debug, Drop, PartialEq)]
 pub enum Reply<N, E, Ix: IndexType = DefaultIx> {
     /// The node that [`Command::Node`](crate::command::Command::Node) added.
@@ -70,7 +119,7 @@ pub enum Reply<N, E, Ix: IndexType = DefaultIx> {
     /// removed, or `None` if there was no such edge.
     EdgeGone(Option<E>),
     /// The edges of [`Command::Children`](crate::command::Command::Children) with the children, or
-    /// those of [`Command::Parents`](crate::command::Command::Parents) with the parents, newest
+    /// the edges of [`Command::Parents`](crate::command::Command::Parents) with the parents, newest
     /// edge first.
     Walk(Vec<Neighbor<Ix>>),
     /// [`Command::ClearEdges`](crate::command::Command::ClearEdges),
@@ -91,6 +140,15 @@ pub enum Reply<N, E, Ix: IndexType = DefaultIx> {
 }
 
 /// The weights of a command that failed, returned to the caller.
+///
+/// # Examples
+///
+/// ```
+/// let mut dag: Dag<u32, u32> = Dag::new(rt.alloc());
+/// // There is no node 9.
+/// let reply = perform(&mut dag, Command::Child(NodeIndex::new(9), 90, 2));
+/// assert!(rt; reply == Reply::Missing(Back::EdgeNode(90, 2)));
+/// ```
 #[derive(Debug, Drop, PartialEq)]
 pub enum Back<N, E> {
     /// No weight: the command took none.
@@ -99,7 +157,7 @@ pub enum Back<N, E> {
     Node(N),
     /// The weight of the edge.
     Edge(E),
-    /// The weight of the edge and that of the node.
+    /// The weight of the edge and the weight of the node.
     EdgeNode(E, N),
     /// The weights of a batch of edges, up to the offending one.
     Edges {

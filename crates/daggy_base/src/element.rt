@@ -3,10 +3,21 @@ ghost use Rattle.std.specs.Prelude.{◌≡◌};
 
 use crate::index::NodeIndex;
 
-/// Conversion into an edge: from its source, its target and its weight, or from the first two
-/// alone.
+/// Conversion into an edge: from its source, its target and its weight, or from its source and its
+/// target only.
 ///
 /// A pair of nodes is an edge with the default weight.
+///
+/// # Examples
+///
+/// ```
+/// let sow: NodeIndex = NodeIndex::new(0);
+/// let reap: NodeIndex = NodeIndex::new(1);
+/// let edge: (NodeIndex, NodeIndex, u32) = (sow, reap).into_weighted_edge();
+/// assert!(rt; edge == (sow, reap, 0));
+/// let edge: (NodeIndex, NodeIndex, u32) = (sow, reap, 90).into_weighted_edge();
+/// assert!(rt; edge == (sow, reap, 90));
+/// ```
 pub trait IntoWeightedEdge<E> {
     /// The type of the two ends: `NodeIndex<Ix>` wherever a dag takes edges.
     type NodeId;
@@ -49,9 +60,9 @@ pub enum Element<N, E> {
     },
     /// An edge between nodes that come before it in the list.
     Edge {
-        /// The position of the node that it leads from.
+        /// The position of the node that the edge leaves.
         source: usize,
-        /// The position of the node that it leads to.
+        /// The position of the node that the edge enters.
         target: usize,
         /// The weight of the edge.
         weight: E,

@@ -18,8 +18,24 @@ use crate::source::IndexedSource;
 
 /// A graph that can be read without counting edge reads.
 ///
-/// Code that only reads is bounded by this and not by [`Store`](crate::store::Store), which makes
-/// the proofs of its callers shorter.
+/// Code that only reads has this bound and not [`Store`](crate::store::Store), which makes the
+/// proofs of its callers shorter.
+///
+/// # Examples
+///
+/// ```
+/// let mut graph: StableDiGraph<&'static str, u32> = StableDiGraph::new(rt.alloc());
+/// let sow = graph.add_node("sow")?;
+/// let reap = graph.add_node("reap")?;
+/// let days = graph.add_edge(sow, reap, 90)?;
+/// assert!(rt; graph.contains_edge_index(days));
+/// // Along the edges that enter `reap`.
+/// assert!(rt; graph.first_edge(reap, Direction::Incoming) == days);
+/// assert!(rt; graph.next_edge(days, Direction::Incoming) == EdgeIndex::end());
+/// // The slot of the edge is vacant afterwards.
+/// assert!(rt; graph.remove_edge(days) == Some(90));
+/// assert!(rt; graph.edge_count() == 0 && graph.edge_slots() == 1);
+/// ```
 pub trait ReadStore<Ix: IndexType>: IndexedSource<Ix> {
     ghost KIND: { Kind };
 

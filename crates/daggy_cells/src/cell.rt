@@ -7,6 +7,17 @@ use daggy_base::index::{DefaultIx, Direction, EdgeIndex, IndexType, NodeIndex};
 use daggy_base::link::Link;
 
 /// A node as it is stored: its weight, and the first edge of each of its lists.
+///
+/// # Examples
+///
+/// ```
+/// let mut dag: Dag<&'static str, u32> = Dag::new(rt.alloc());
+/// let sow = dag.add_node("sow")?;
+/// let (days, _) = dag.add_child(sow, 90, "reap")?;
+/// let node = dag.raw_nodes().first();
+/// assert!(rt; node.is_some_and(|node| node.weight == "sow"));
+/// assert!(rt; node.is_some_and(|node| node.next_edge(Direction::Outgoing) == days));
+/// ```
 #[derive(Clone, Debug, Drop)]
 pub struct Node<N, Ix: IndexType = DefaultIx> {
     /// The weight of the node.
@@ -16,6 +27,19 @@ pub struct Node<N, Ix: IndexType = DefaultIx> {
 }
 
 /// An edge as it is stored: its weight, its endpoints, and the edge after it in each of its lists.
+///
+/// # Examples
+///
+/// ```
+/// let mut dag: Dag<&'static str, u32> = Dag::new(rt.alloc());
+/// let sow = dag.add_node("sow")?;
+/// let (_, reap) = dag.add_child(sow, 90, "reap")?;
+/// let edge = dag.raw_edges().first();
+/// assert!(rt; edge.is_some_and(|edge| edge.source() == sow && edge.target() == reap));
+/// // It is the only edge in the list of `sow`.
+/// let next = edge.map(|edge| edge.next_edge(Direction::Outgoing));
+/// assert!(rt; next == Some(EdgeIndex::end()));
+/// ```
 #[derive(Clone, Debug, Drop)]
 pub struct Edge<E, Ix: IndexType = DefaultIx> {
     /// The weight of the edge.

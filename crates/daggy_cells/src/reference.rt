@@ -7,6 +7,17 @@ use std::alloc::AllocError;
 use std::fmt;
 
 /// A reference to an edge of a graph: its index, its endpoints and its weight.
+///
+/// # Examples
+///
+/// ```
+/// let mut dag: Dag<&'static str, u32> = Dag::new(rt.alloc());
+/// let sow = dag.add_node("sow")?;
+/// let (days, reap) = dag.add_child(sow, 90, "reap")?;
+/// let edge = dag.edges(sow).next();
+/// assert!(rt; edge == Some(EdgeReference::from_parts(days, sow, reap, &90)));
+/// assert!(rt; edge.is_some_and(|edge| edge.target() == reap && edge.weight() == &90));
+/// ```
 #[derive(Eq, PartialEq)]
 pub struct EdgeReference<'a, E, Ix = DefaultIx> {
     // The fields are plain indices rather than typed ones, so that a function can take a reference

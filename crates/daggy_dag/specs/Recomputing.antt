@@ -37,7 +37,7 @@ module _ {N E S F I : Type 0} (graph : S → Graph N E) (of : ℕ → I) where
 
 module _ {N E S F I X : Type 0} (graph : S → Graph N E) (of : ℕ → I)
     (step : F → Bor S → I → Result N X → F → Type 0) where
-  -- f answered when it was called with the graph g and the node n, and became next
+  -- f returned this result when it was called with the graph g and the node n, and became next
   abbrev pub Answers : F → Graph N E → ℕ → Result N X → F → Type 0
   Answers f g n answer next = (shown : Bor S) × (graph shown.now ≡ g) × step f shown (of n) answer next
 

@@ -1,4 +1,4 @@
--- The graph after a closure was asked of each node, or of each edge, whether it stays.
+-- The graph after a closure was called for each node, or for each edge, to decide whether it stays.
 use Rattle.std.specs.Prelude.{◌≡◌, ℕ, zero, suc, Bool, if◌then◌else◌, Option, Some, None, List, length}
 use Rattle.std.specs.Borrow.{Bor}
 use Rattle.std.specs.Iterator.{CallableAtEachTurn, YieldsLast}
@@ -11,7 +11,7 @@ use Rattle.daggy_base.specs.Removal.{without_node, without_edge}
 
 module _ {F I W A : Type 0} (of : ℕ → I) (pre : F → I → Bor W → Type 0)
     (step : F → I → Bor W → Bool → F → Type 0) (weight : A → W) where
-  -- f may be asked of each occupied slot, the last one first, whatever it answered before
+  -- f may be called for each occupied slot, the last one first, whatever it returned before
   abbrev pub CanAskDown : List (Option A) → F → List (ℕ × A) → Type 0
   CanAskDown slots f left =
       CallableAtEachTurn (YieldsLast (λ l. l)) (CalledAtSlot of pre step weight) (TakesSlot of pre step weight slots) left f
@@ -30,7 +30,7 @@ module _ {F I W A G : Type 0} (of : ℕ → I) (step : F → I → Bor W → Boo
   AsksDown f g (suc n) h = (next : F) × (left : G) × Asks f g n (at g n) next left × AsksDown next left n h
 
 module _ {N E F I : Type 0} (of : ℕ → I) where
-  -- f may be asked of each node in descending index order, whatever it answered before
+  -- f may be called for each node in descending index order, whatever it returned before
   abbrev pub CanAskNodes : (pre : F → I → Bor N → Type 0) → (step : F → I → Bor N → Bool → F → Type 0)
       → F → Graph N E → Type 0
   CanAskNodes pre step f g = CanAskDown of pre step (λ w. w) g.nodes f (numbered 0 g.nodes)
@@ -40,7 +40,8 @@ module _ {N E F I : Type 0} (of : ℕ → I) where
       → F → Graph N E → Type 0
   CanAskEdges pre step f g = CanAskDown of pre step weight_in g.edges f (numbered 0 g.edges)
 
-  -- f was asked of each node in descending index order, and each of which it said no was removed with its edges
+  -- f was called for each node in descending index order, and each node for which it returned false was removed with
+  -- its edges
   abbrev pub RetainsNodes : (step : F → I → Bor N → Bool → F → Type 0) → Kind → F → Graph N E → Graph N E → Type 0
   RetainsNodes step kind f g h = AsksDown of step (λ w. w) node_weight (without_node kind) f g (length g.nodes) h
 

@@ -11,6 +11,6 @@ module _ {N E : Type 0} where
   abbrev pub IsWholeReduction : Kind → (old new : Graph N E) → Type 0
   IsWholeReduction kind old new = (roots : List ℕ) × ReachAll old roots × IsReduction kind roots old new
 
-  -- new joins two nodes if and only if one covers the other in old
+  -- two nodes are adjacent in new if and only if one covers the other in old
   abbrev pub JoinsCoversOnly : (old new : Graph N E) → Type 0
   JoinsCoversOnly old new = (u v : ℕ) → AreJoined new u v ↔ Covers old u v

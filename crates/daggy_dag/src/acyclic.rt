@@ -76,13 +76,30 @@ pub use walkers::{Children, Parents};
 /// A directed graph that never has a cycle, with weights of type `N` at its nodes and of type `E`
 /// at its edges, over a store `S`.
 ///
-/// [`Dag`] and [`StableDag`] are aliases of it, each over its own store. Parallel edges are
+/// [`Dag`] and [`StableDag`] are aliases of it, each with its own store. Parallel edges are
 /// allowed. An edge that would close a cycle is rejected, and its weight is returned.
 ///
 /// It maintains a topological order of its nodes, so an edge that agrees with the order needs no
-/// search. For any other edge only nodes between its ends are searched, as in incremental
-/// topological ordering (Pearce and Kelly 2006). Adding a node reserves the memory that later cycle
-/// searches need, so those never fail.
+/// search. For any other edge, only nodes between its endpoints in the order are searched, as in
+/// incremental topological ordering (Pearce and Kelly 2006). Adding a node reserves the memory that
+/// later searches for cycles need, so these never fail.
+///
+/// # Examples
+///
+/// ```
+/// // Takes a dag of either kind.
+/// fn has_edges<S>(dag: &Acyclic<u32, u32, u32, S>) -> bool
+/// where
+///     S: ReadStore<u32, NodeWeight = u32, EdgeWeight = u32>,
+/// {
+///     dag.edge_count() > 0
+/// }
+///
+/// let dag: Dag<u32, u32> = Dag::new(rt.alloc());
+/// assert!(rt; !has_edges(&dag));
+/// let dag: StableDag<u32, u32> = StableDag::new(rt.alloc());
+/// assert!(rt; !has_edges(&dag));
+/// ```
 #[derive(Drop)]
 pub struct Acyclic<N, E, Ix: IndexType, S: EdgeSource<Ix, NodeWeight = N, EdgeWeight = E>> {
     guarded: Guarded<Ix, S>,
@@ -185,6 +202,18 @@ where
     }
 
     /// Whether the index type has an index left for one more node.
+    ///
+    /// # Examples
+    ///
+    /// ```
+    /// let mut dag: Dag<(), (), u8> = Dag::new(rt.alloc());
+    /// for _ in 0..300 {
+    ///     if dag.can_add_node() {
+    ///         dag.add_node(())?;
+    ///     }
+    /// }
+    /// assert!(rt; dag.node_count() == 255);
+    /// ```
     #[inline]
     pub fn can_add_node(&self) -> bool
         ensures { IsTrue result ↔ (node_count_of self.now.graph < Ix.greatest) }
@@ -193,6 +222,20 @@ where
     }
 
     /// Whether the index type has an index left for one more edge.
+    ///
+    /// # Examples
+    ///
+    /// ```
+    /// let mut dag: Dag<&'static str, (), u8> = Dag::new(rt.alloc());
+    /// let sow = dag.add_node("sow")?;
+    /// let reap = dag.add_node("reap")?;
+    /// for _ in 0..300 {
+    ///     if dag.can_add_edge() {
+    ///         dag.add_edge(sow, reap, ())?;
+    ///     }
+    /// }
+    /// assert!(rt; dag.edge_count() == 255);
+    /// ```
     #[inline]
     pub fn can_add_edge(&self) -> bool
         ensures { IsTrue result ↔ (edge_count_of self.now.graph < Ix.greatest) }
@@ -238,6 +281,17 @@ where
     /// # Complexity
     ///
     /// O(children of `a`).
+    ///
+    /// # Examples
+    ///
+    /// ```
+    /// let mut dag: Dag<&'static str, u32> = Dag::new(rt.alloc());
+    /// let sow = dag.add_node("sow")?;
+    /// let (_, reap) = dag.add_child(sow, 90, "reap")?;
+    /// let newest = dag.add_edge(sow, reap, 30)?;
+    /// assert!(rt; dag.find_edge(sow, reap) == Some(newest));
+    /// assert!(rt; dag.find_edge(reap, sow).is_none());
+    /// ```
     pub fn find_edge(&self, a: NodeIndex<Ix>, b: NodeIndex<Ix>) -> Option<EdgeIndex<Ix>>
         ensures found { option_map Ix.number result
             ≡ edge_between self.now.graph (Ix.number a) (Ix.number b) }
@@ -340,6 +394,16 @@ where
     /// # Complexity
     ///
     /// Amortized O(1).
+    ///
+    /// # Examples
+    ///
+    /// ```
+    /// let mut dag: Dag<&'static str, u32> = Dag::new(rt.alloc());
+    /// let sow = dag.add_node("sow")?;
+    /// assert!(rt; dag[sow] == "sow");
+    /// dag[sow] = "mow";
+    /// assert!(rt; dag.node_weight(sow) == Some(&"mow"));
+    /// ```
     #[inline]
     pub fn add_node(&mut self, weight: N) -> Result<NodeIndex<Ix>, NodeError<N>>
         requires { node_count_of self.old.graph < Ix.greatest }
@@ -544,6 +608,15 @@ where
     /// # Complexity
     ///
     /// Amortized O(1).
+    ///
+    /// # Examples
+    ///
+    /// ```
+    /// let mut dag: Dag<&'static str, u32> = Dag::new(rt.alloc());
+    /// let reap = dag.add_node("reap")?;
+    /// let (days, sow) = dag.add_parent(reap, 90, "sow")?;
+    /// assert!(rt; dag.edge_endpoints(days) == Some((sow, reap)));
+    /// ```
     #[inline]
     pub fn add_parent(
         &mut self,
@@ -574,7 +647,20 @@ where
     /// # Complexity
     ///
     /// In a [`StableDag`] O(edges before it in its two lists). In a [`Dag`] O(edges in the lists of
-    /// this edge and of the one with the last index).
+    /// this edge and in the lists of the edge with the last index).
+    ///
+    /// # Examples
+    ///
+    /// ```
+    /// let mut dag: Dag<&'static str, u32> = Dag::new(rt.alloc());
+    /// let sow = dag.add_node("sow")?;
+    /// let (days, reap) = dag.add_child(sow, 90, "reap")?;
+    /// let more = dag.add_edge(sow, reap, 30)?;
+    /// assert!(rt; dag.remove_edge(days) == Some(90));
+    /// // The last edge has its index now.
+    /// assert!(rt; dag.edge_weight(days) == Some(&30));
+    /// assert!(rt; dag.edge_weight(more).is_none());
+    /// ```
     pub fn remove_edge(&mut self, e: EdgeIndex<Ix>) -> Option<E>
         ensures value { result ≡ edge_weight_at self.old.graph (Ix.number e) }
         ensures removed { OnSome result
@@ -634,11 +720,23 @@ where
         self.guarded.order.clear();
     }
 
-    /// Removes all edges and the slots of edges, and keeps the nodes and the vacant slots of nodes.
+    /// Removes all edges and all edge slots, and keeps the nodes and the vacant node slots.
     ///
     /// # Complexity
     ///
     /// O(slots).
+    ///
+    /// # Examples
+    ///
+    /// ```
+    /// let mut dag: Dag<&'static str, u32> = Dag::new(rt.alloc());
+    /// let sow = dag.add_node("sow")?;
+    /// dag.add_child(sow, 90, "reap")?;
+    /// dag.clear_edges();
+    /// assert!(rt; dag.node_count() == 2 && dag.edge_count() == 0);
+    /// dag.clear();
+    /// assert!(rt; dag.node_count() == 0);
+    /// ```
     pub fn clear_edges(&mut self)
         ensures cleared { self.new ≡ with_graph self.old (without_all_edges self.old.graph) }
         ensures acyclic { IsAcyclic self.new.graph }

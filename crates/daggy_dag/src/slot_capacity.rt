@@ -1,4 +1,4 @@
-//! A compact graph moved into slots whose memory was allocated before.
+//! Moving a compact graph into slots whose memory was allocated in advance.
 ghost use Rattle.std.specs.Prelude.{◌≡◌, ◌≤◌, [], length, map, vec_capacity, IfOk};
 ghost use Rattle.daggy_base.specs.Graph.{node_count as node_count_of, edge_count as edge_count_of};
 ghost use Rattle.daggy_dag.specs.SlottedCells.{slotted_node, slotted_edge};
@@ -64,7 +64,7 @@ impl<N, E, Ix: IndexType> Room<N, E, Ix> {
         })
     }
 
-    /// The stable graph with the same indices and lists, and with no vacant slot.
+    /// Moves `graph` into a stable graph with the same indices and lists, and with no vacant slot.
     ///
     /// # Requires
     ///

@@ -1,4 +1,4 @@
-//! Text between quotes, as graphviz reads it.
+//! Quoted text for graphviz.
 ghost use Rattle.std.specs.Prelude.{◌≡◌, OnOk, chars, encode_utf8_all};
 ghost use Rattle.std.specs.Option.{option_map};
 ghost use Rattle.std.specs.Fmt.{DisplaysOnOk, WritesOnOk};
@@ -99,8 +99,8 @@ pub(crate) fn write_quoted<D: Display + Drop, W: Write>(
 /// Writes the attribute `label` with a value's text, and a space after it.
 ///
 /// A quote, a backslash, a newline and an ampersand are escaped, so that graphviz shows the text as
-/// it is. A character that no picture may contain, such as a control character, is written as
-/// U+FFFD, and a long text on several lines, because graphviz reads no line of 16 KB.
+/// it is. A character that graphviz does not allow, such as a control character, is written as
+/// U+FFFD. A long text is written on several lines, because graphviz cannot read a line of 16 KB.
 ///
 /// # Errors
 ///
@@ -118,7 +118,7 @@ pub fn write_label<D: Display + Drop, W: Write>(text: D, f: &mut Formatter<W>) -
 }
 
 /// Writes an attribute with a value's text, escaped as [`write_label`] does, and a space after it.
-/// The name is written as it is: `color`, `shape` and so on.
+/// The name is not escaped: `color`, `shape` and so on.
 ///
 /// # Errors
 ///

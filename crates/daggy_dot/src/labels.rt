@@ -6,7 +6,7 @@ ghost use Rattle.daggy_dot.specs.Escapes.{label_of};
 use crate::escapes::write_label;
 use std::fmt::{self, Display, Formatter, Write};
 
-/// The labels of nodes or of edges, by index and weight.
+/// Makes the labels of nodes or of edges from their indices and weights.
 ///
 /// To write labels of your own, implement it with [`write_label`], which takes any `Display` value,
 /// such as a text or `format_args!`, and write other attributes with

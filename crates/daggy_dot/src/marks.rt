@@ -1,4 +1,4 @@
-//! The nodes of a path and its steps, looked up in constant time.
+//! The nodes and the edges of a path, looked up in constant time.
 ghost use Rattle.std.specs.Prelude.{◌≡◌, ◌==◌, ◌&&◌, ◌||◌, ℕ, IfOk, OnOk};
 ghost use Rattle.daggy_dot.specs.Picture.{AreMarks, is_marked, is_step, begins_with};
 

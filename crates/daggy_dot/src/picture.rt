@@ -1,4 +1,4 @@
-//! A graph in the language of graphviz.
+//! Graphs in the language of graphviz.
 ghost use Rattle.std.specs.Prelude.{◌≡◌, true, length, map, vec_items, IfOk, Some};
 ghost use Rattle.std.specs.Fmt.{DisplaysOnOk, WritesOnOk, ◌++?◌};
 ghost use Rattle.std.specs.List.{flat_map};
@@ -277,6 +277,19 @@ where
     /// # Complexity
     ///
     /// O(edges), plus the calls.
+    ///
+    /// # Examples
+    ///
+    /// ```
+    /// let mut dag: Dag<&'static str, u32> = Dag::new(rt.alloc());
+    /// let sow = dag.add_node("sow")?;
+    /// dag.add_child(sow, 90, "reap")?;
+    /// let style = |_, days: &u32| if *days > 30 { Some("dashed") } else { None };
+    /// let dot = Dot::new(&dag).edge_attribute(rt.alloc(), "style", style)?;
+    /// let picture = format!(in rt.alloc(); "{dot}")?;
+    /// let line = "0 -> 1 [ label = \"90\" style = \"dashed\" ]";
+    /// assert!(rt; picture.as_str().contains(line));
+    /// ```
     pub fn edge_attribute<D: Drop, F: Fn(EdgeIndex<Ix>, &E) -> Option<D>>(
         self,
         alloc: Global,
@@ -309,8 +322,8 @@ where
         })
     }
 
-    /// Draws a box around the nodes for which the closure returns the same name, and the name above
-    /// them. Names are compared by what they display.
+    /// Draws a box, with its name above, around the nodes for which the closure returns the same
+    /// name. Names are compared by what they display.
     ///
     /// # Requires
     ///
@@ -363,6 +376,14 @@ where
     }
 
     /// Sets a title, which is drawn above the graph.
+    ///
+    /// # Examples
+    ///
+    /// ```
+    /// let dag: Dag<&'static str, u32> = Dag::new(rt.alloc());
+    /// let picture = format!(in rt.alloc(); "{}", Dot::new(&dag).title("A garden"))?;
+    /// assert!(rt; picture.as_str().contains("\"A garden\""));
+    /// ```
     pub fn title(self, title: &'a str) -> Self
         ensures { result ≡ record self.entry { title = Some title.now } }
     {
@@ -372,15 +393,28 @@ where
         }
     }
 
-    /// Puts the nodes of each stage on one rank, as those of a plan. Nodes that do not exist are
-    /// left out.
+    /// Puts the nodes of each stage, such as the stages of a plan, on one rank. Nodes that do not
+    /// exist are left out.
+    ///
+    /// # Examples
+    ///
+    /// ```
+    /// let mut dag: Dag<&'static str, u32> = Dag::new(rt.alloc());
+    /// let sow = dag.add_node("sow")?;
+    /// dag.add_child(sow, 90, "reap")?;
+    /// dag.add_node("mend the fence")?;
+    /// let plan = plan(rt.alloc(), &dag)?;
+    /// let dot = Dot::new(&dag).ranks(plan.stages.as_slice());
+    /// let picture = format!(in rt.alloc(); "{dot}")?;
+    /// assert!(rt; picture.as_str().contains("{ rank = same; 0; 2; }"));
+    /// ```
     pub fn ranks(self, stages: &'a [Vec<NodeIndex<Ix>>]) -> Self
         ensures { result ≡ record self.entry { stages = map vec_items stages.now } }
     {
         Dot { stages, ..self }
     }
 
-    /// Draws the nodes of a path in bold, and the edges from each of them to the next.
+    /// Draws the nodes of a path in bold, and the edges from each node of the path to the next.
     ///
     /// # Errors
     ///
@@ -388,8 +422,8 @@ where
     ///
     /// # Complexity
     ///
-    /// Expected O(length of the path), and no more than expected O(1) for each node and edge when
-    /// it is displayed.
+    /// Expected O(length of the path), and expected O(1) for each node and edge when it is
+    /// displayed.
     pub fn bold(self, alloc: Global, path: &[NodeIndex<Ix>]) -> Result<Self, AllocError>
         ensures rest { IfOk result (λ dot. dot ≡ record self.entry { marks = dot.marks }) }
         ensures marks { IfOk result (λ dot. AreMarksOf Ix.number path.now dot.marks) }

@@ -1,4 +1,4 @@
-//! What closures return for the nodes and edges of a graph.
+//! The values that closures return for the nodes and edges of a graph.
 ghost use Rattle.std.specs.Prelude.{◌≡◌, ◌<◌, length, IfOk, vec_items};
 ghost use Rattle.std.specs.Fmt.{DisplaysOnOk};
 ghost use Rattle.daggy_dot.specs.Values.{named_at, cluster_of, cluster_at};
@@ -100,12 +100,12 @@ pub struct Clusters<D> {
     names: Vec<Option<D>>,
 }
 
-/// What two labels write, one after the other.
+/// Two labels, written one after the other.
 #[derive(Clone, Copy, Debug, Drop)]
 pub struct Both<L, M> {
-    /// What is written first.
+    /// The label that is written first.
     pub first: L,
-    /// What is written after it.
+    /// The label that is written after it.
     pub second: M,
 }
 

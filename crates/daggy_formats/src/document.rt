@@ -1,4 +1,4 @@
-//! A graph in a format.
+//! Graphs as documents in a format.
 ghost use Rattle.std.specs.Prelude.{◌≡◌, length};
 ghost use Rattle.std.specs.Fmt.{DisplaysOnOk};
 ghost use Rattle.daggy_formats.specs.Document.{node_lines, edge_lines};
@@ -51,7 +51,7 @@ impl<'a, F, N, E, Ix: IndexType, S> Document<'a, F, N, E, Ix, S>
 where
     S: ReadStore<Ix, NodeWeight = N, EdgeWeight = E>,
 {
-    /// A graph, which may have cycles, in a format.
+    /// Makes a document of a graph, which may have cycles.
     pub fn new(graph: &'a S) -> Self
         ensures { result ≡ S.graph graph.now }
     {
@@ -66,6 +66,15 @@ where
 }
 
 /// A graph as a flowchart of [`Mermaid`].
+///
+/// # Examples
+///
+/// ```
+/// let mut dag: Dag<&'static str, u32> = Dag::new(rt.alloc());
+/// dag.add_node("sow")?;
+/// let chart = format!(in rt.alloc(); "{}", mermaid(dag.graph()))?;
+/// assert_eq!(rt; chart.as_str(), "flowchart TD\n    0[\"sow\"]\n");
+/// ```
 pub fn mermaid<N, E, Ix: IndexType, S>(graph: &S) -> Document<'_, Mermaid, N, E, Ix, S>
 where
     S: ReadStore<Ix, NodeWeight = N, EdgeWeight = E>,
@@ -111,6 +120,16 @@ where
 }
 
 /// The edges of a graph as a table: an [`EdgeTable`].
+///
+/// # Examples
+///
+/// ```
+/// let mut dag: Dag<&'static str, u32> = Dag::new(rt.alloc());
+/// let sow = dag.add_node("sow")?;
+/// dag.add_child(sow, 90, "reap")?;
+/// let edges = format!(in rt.alloc(); "{}", edge_table(dag.graph()))?;
+/// assert_eq!(rt; edges.as_str(), "parent,child,weight\n0,1,\"90\"\n");
+/// ```
 pub fn edge_table<N, E, Ix: IndexType, S>(graph: &S) -> Document<'_, EdgeTable, N, E, Ix, S>
 where
     S: ReadStore<Ix, NodeWeight = N, EdgeWeight = E>,

@@ -7,7 +7,7 @@ ghost use Rattle.daggy_formats.specs.Escapes.{escaped};
 use std::fmt::{self, Display, Formatter, Write};
 use std::marker::PhantomData;
 
-/// How the characters of a text are written.
+/// How each character of a text is escaped.
 pub trait Escape {
     // What is written for a character.
     ghost escaped_char: { ℕ → List ℕ } = { λ c. c ∷ [] };

@@ -10,6 +10,47 @@ use crate::escaper::{Escape, write_escaped};
 use std::fmt::{self, Display, Formatter, Write};
 
 /// How a graph is written: a header, a line for each node and each edge, and a footer.
+///
+/// # Examples
+///
+/// ```
+/// struct Lines;
+///
+/// impl Format for Lines {
+///     fn write_header<W: fmt::Write>(_f: &mut fmt::Formatter<W>) -> fmt::Result {
+///         Ok(())
+///     }
+///
+///     fn write_node<N: fmt::Display, W: fmt::Write>(
+///         n: usize,
+///         weight: &N,
+///         f: &mut fmt::Formatter<W>,
+///     ) -> fmt::Result {
+///         writeln!(f, "{n}: {weight}")
+///     }
+///
+///     fn write_edge<E: fmt::Display, W: fmt::Write>(
+///         a: usize,
+///         b: usize,
+///         weight: &E,
+///         f: &mut fmt::Formatter<W>,
+///     ) -> fmt::Result {
+///         writeln!(f, "{a} to {b}: {weight}")
+///     }
+///
+///     fn write_footer<W: fmt::Write>(_f: &mut fmt::Formatter<W>) -> fmt::Result {
+///         Ok(())
+///     }
+/// }
+///
+/// let mut dag: Dag<&'static str, u32> = Dag::new(rt.alloc());
+/// let sow = dag.add_node("sow")?;
+/// dag.add_child(sow, 90, "reap")?;
+/// let document: Document<'_, Lines, &'static str, u32, u32, DiGraph<&'static str, u32>> =
+///     Document::new(dag.graph());
+/// let text = format!(in rt.alloc(); "{document}")?;
+/// assert_eq!(rt; text.as_str(), "0: sow\n1: reap\n0 to 1: 90\n");
+/// ```
 pub trait Format {
     ghost header: { List ℕ } = { [] };
     // The line of a node, by its index and what its weight displays, if it displays anything.
@@ -19,7 +60,7 @@ pub trait Format {
 
     ghost footer: { List ℕ } = { [] };
 
-    /// Writes what comes before the nodes.
+    /// Writes the text before the nodes.
     ///
     /// # Errors
     ///
@@ -58,7 +99,7 @@ pub trait Format {
         ensures { DisplaysOnOk W.write_str_gives f.old result (edge_line a b (E.output weight.now))
             f.new };
 
-    /// Writes what comes after the edges.
+    /// Writes the text after the edges.
     ///
     /// # Errors
     ///
@@ -67,7 +108,7 @@ pub trait Format {
         ensures { WritesOnOk W.write_str_gives f.old result footer f.new };
 }
 
-/// A Mermaid flowchart, which many forges and wikis draw in place of a fenced code block:
+/// A Mermaid flowchart. Many forges and wikis draw a fenced code block with such text as a picture:
 ///
 ///     flowchart TD
 ///         0["sow"]
@@ -224,6 +265,18 @@ impl Format for EdgeTable {
 
 /// GraphML, which networkx reads. A node's identifier is `n` and its index, and the weights are
 /// texts. A character that XML does not allow, such as a control character, is written as U+FFFD.
+///
+/// # Examples
+///
+/// ```
+/// let mut dag: Dag<&'static str, u32> = Dag::new(rt.alloc());
+/// let sow = dag.add_node("sow")?;
+/// dag.add_child(sow, 90, "reap")?;
+/// let document: Document<'_, GraphMl, &'static str, u32, u32, DiGraph<&'static str, u32>> =
+///     graphml(dag.graph());
+/// let text = format!(in rt.alloc(); "{document}")?;
+/// assert!(rt; text.as_str().contains("source=\"n0\" target=\"n1\""));
+/// ```
 #[derive(Clone, Copy, Debug)]
 pub struct GraphMl;
 

@@ -126,6 +126,17 @@ impl<N, E, Ix: IndexType> DiGraph<N, E, Ix> {
     /// # Complexity
     ///
     /// Amortized O(1).
+    ///
+    /// # Examples
+    ///
+    /// ```
+    /// let mut graph: DiGraph<&'static str, u32> = DiGraph::new(rt.alloc());
+    /// let sow = graph.add_node("sow")?;
+    /// // Its weight, by its index.
+    /// assert!(rt; graph[sow] == "sow");
+    /// graph[sow] = "mow";
+    /// assert!(rt; graph.node_weight(sow) == Some(&"mow"));
+    /// ```
     #[inline]
     pub fn add_node(&mut self, weight: N) -> Result<NodeIndex<Ix>, NodeError<N>>
         requires { node_count_of self.old.graph < Ix.greatest }
@@ -200,6 +211,20 @@ impl<N, E, Ix: IndexType> DiGraph<N, E, Ix> {
     }
 
     /// The first edge of the node's out list or in list, or `end` if that list is empty.
+    ///
+    /// # Examples
+    ///
+    /// ```
+    /// let mut graph: DiGraph<&'static str, u32> = DiGraph::new(rt.alloc());
+    /// let sow = graph.add_node("sow")?;
+    /// let reap = graph.add_node("reap")?;
+    /// assert!(rt; graph.first_edge(sow, Direction::Outgoing) == EdgeIndex::end());
+    /// let days = graph.add_edge(sow, reap, 90)?;
+    /// let more = graph.add_edge(sow, reap, 30)?;
+    /// // The newest edge comes first.
+    /// assert!(rt; graph.first_edge(sow, Direction::Outgoing) == more);
+    /// assert!(rt; graph.next_edge(more, Direction::Outgoing) == days);
+    /// ```
     #[inline]
     pub fn first_edge(&self, n: NodeIndex<Ix>, dir: Direction) -> EdgeIndex<Ix>
         ensures { Ix.number result
@@ -232,7 +257,18 @@ impl<N, E, Ix: IndexType> DiGraph<N, E, Ix> {
     ///
     /// # Complexity
     ///
-    /// O(edges out of `a`).
+    /// O(edges that leave `a`).
+    ///
+    /// # Examples
+    ///
+    /// ```
+    /// let mut graph: DiGraph<&'static str, u32> = DiGraph::new(rt.alloc());
+    /// let sow = graph.add_node("sow")?;
+    /// let reap = graph.add_node("reap")?;
+    /// let days = graph.add_edge(sow, reap, 90)?;
+    /// assert!(rt; graph.find_edge(sow, reap) == Some(days));
+    /// assert!(rt; graph.contains_edge(sow, reap) && !graph.contains_edge(reap, sow));
+    /// ```
     pub fn find_edge(&self, a: NodeIndex<Ix>, b: NodeIndex<Ix>) -> Option<EdgeIndex<Ix>>
         ensures { option_map Ix.number result
             ≡ edge_between self.now.graph (Ix.number a) (Ix.number b) }
@@ -246,7 +282,7 @@ impl<N, E, Ix: IndexType> DiGraph<N, E, Ix> {
     ///
     /// # Complexity
     ///
-    /// O(edges out of `a`).
+    /// O(edges that leave `a`).
     pub fn contains_edge(&self, a: NodeIndex<Ix>, b: NodeIndex<Ix>) -> bool
         ensures { IsTrue result ↔ AreJoined self.now.graph (Ix.number a) (Ix.number b) }
     {

@@ -1,4 +1,4 @@
-//! The compact store: a graph whose nodes, and whose edges, are numbered without gaps.
+//! The compact store: a graph whose nodes are numbered without gaps, and so are its edges.
 #![tactic(auto)]
 
 pub mod graph;

@@ -61,8 +61,8 @@ CanStand g a b old new Closed =
 abbrev pub IsStep : {N E : Type 0} → Graph N E → (a b : ℕ) → (old new : BatchOrder) → Type 0
 IsStep g a b old new = CanStand g a b old new new.standing
 
--- The count of edge reads, which was `start` before a batch, during it: the searches read no more than the budget, but
--- for the last one, which read no more than all edges.
+-- The count of edge reads during a batch; it was `start` before the batch. The searches read no more than the budget,
+-- except for the last one, which read no more than all edges.
 abbrev pub IsWithin : (budget edges start looks : ℕ) → Standing → Type 0
 IsWithin budget edges start looks (Kept left) =
     (0 < left → looks + left ≤ start + budget) × (looks ≤ start + budget + edges)

@@ -86,12 +86,12 @@ module _ {I N E S : Type 0} (number : I → ℕ) (limit : ℕ) (gives : S → Op
   IsRefused g (Memory last before) = IsFirstFault (LacksMemory limit) g last before.items
   IsRefused g (WouldCycle w) = ClosesCycle g w.0.items
 
--- How many edges are read at most for a batch of `count` edges: by searches as many as there were nodes or edges before,
--- by one more search all edges, and by sorting all edges.
+-- The most edges that are read for a batch of `count` edges: as many as there were nodes or edges before by searches,
+-- all edges by one more search, and all edges by sorting.
 abbrev pub batch_looks : {N E : Type 0} → Graph N E → (count : ℕ) → ℕ
 batch_looks g count = max (node_count g) (edge_count g) + 2 * (edge_count g + count)
 
--- how many were read at most, by the edges that were accepted or refused together, or came before the invalid one
+-- the most that were read, for the edges that were accepted or refused together, or that came before the invalid one
 abbrev pub most_looks : {N E : Type 0} → Graph N E → Result (List ℕ) (EdgesError E) → ℕ
 most_looks g (Ok edges) = batch_looks g (length edges)
 most_looks g (Err (WouldCycle w)) = batch_looks g (length w.0.items)

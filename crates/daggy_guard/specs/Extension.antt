@@ -83,7 +83,7 @@ module _ {N E : Type 0} (IsDefault : N → Type 0) where
       pub extension : FoldsTo (IsExtended limit) old (map (by_numbers number) edges) mid
       pub stopped : IsStopped limit mid (by_numbers number edge) error new
 
--- How many edge reads an extension takes at most: for each edge that it added, and for the one that was refused, as many
--- as there are edges in the end.
+-- The most edge reads that an extension takes: as many as there are edges in the end, for each edge that it added and
+-- for the edge that was refused.
 abbrev pub extension_looks : {N E : Type 0} → (old new : Graph N E) → ℕ
 extension_looks old new = (edge_count new - edge_count old + 1) * edge_count new

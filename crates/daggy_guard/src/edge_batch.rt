@@ -82,7 +82,8 @@ fn roll_back<Ix: IndexType, S: Store<Ix>>(
 // How the order relates to the edges of a batch that were added so far.
 #[derive(Clone, Copy)]
 pub(crate) enum Standing {
-    // It agrees with all of them. Searches may read this many edges more before it is abandoned.
+    // It agrees with all of them. Searches may read this many more edges before the order is
+    // abandoned.
     Kept(usize),
     // It was abandoned at an edge that conflicts with it. All nodes are sorted at the end.
     Left,
@@ -156,7 +157,8 @@ fn order_item<Ix: IndexType, S: ReadStore<Ix>>(
 }
 
 // Adds one edge of a batch of at least `expected` edges, and notes its index. Memory to return its
-// weight in an error is reserved first, all at once if the iterator told how many to expect.
+// weight in an error is reserved first, all at once if the iterator reports how many edges to
+// expect.
 fn add_item<Ix: IndexType, S: Store<Ix>>(
     store: &mut S,
     order: &mut Order<Ix>,

@@ -1,4 +1,4 @@
-//! The indices that a batch of edges got.
+//! The indices of a batch of edges.
 ghost use Rattle.std.specs.Prelude.{◌≡◌, ◌<◌, ◌^◌, map, length};
 ghost use Rattle.std.specs.Iterator.{YieldsFirstBy, item_count};
 
@@ -8,6 +8,17 @@ use std::iter::{ExactSizeIterator, FusedIterator};
 use std::marker::Model;
 
 /// The indices of edges that were added together, in the order in which the edges were given.
+///
+/// # Examples
+///
+/// ```
+/// let mut dag: Dag<&'static str, u32> = Dag::new(rt.alloc());
+/// let sow = dag.add_node("sow")?;
+/// let reap = dag.add_node("reap")?;
+/// let items = Vec::from_array(rt.alloc(), [(sow, reap, 90), (sow, reap, 30)])?;
+/// let added = dag.add_edges(items)?.into_vec();
+/// assert!(rt; added.as_slice() == [EdgeIndex::new(0), EdgeIndex::new(1)].as_slice());
+/// ```
 #[derive(Drop)]
 pub struct EdgeIndices<Ix: IndexType> {
     indices: Vec<EdgeIndex<Ix>>,

@@ -61,7 +61,7 @@ impl<Ix: IndexType, S: EdgeSource<Ix>> Model for Guarded<Ix, S> {
 }
 
 impl<Ix: IndexType, S: ReadStore<Ix>> Guarded<Ix, S> {
-    /// Does nothing. Called for its contract: what always holds.
+    /// Does nothing. Called only for its postcondition: what always holds.
     #[inline]
     pub fn invariant(&self)
         ensures dag { IsDag Ix.greatest self.now.graph }
@@ -85,7 +85,7 @@ impl<Ix: IndexType, S: Store<Ix>> Guarded<Ix, S> {
         }
     }
 
-    /// A store with an order of its nodes, and scratch that fits searches of its graph.
+    /// A store with an order of its nodes, and a scratch that fits searches of its graph.
     pub fn from_parts(store: S, order: Order<Ix>, scratch: Scratch<Ix>) -> Self
         requires ordered { IsOrderOf (S.graph store) order }
         requires fits { node_bound (S.graph store) ≤ scratch.nodes }
@@ -157,7 +157,7 @@ impl<Ix: IndexType, S: Store<Ix>> Guarded<Ix, S> {
         self.store.add_edge(a, b, weight)
     }
 
-    /// Replaces the weight of the edge that is found between `a` and `b`, or adds an edge as
+    /// Replaces the weight of the edge that `find_edge` returns for `a` and `b`, or adds an edge as
     /// [`add_edge`](Guarded::add_edge) does if there is none.
     pub fn update_edge(
         &mut self,

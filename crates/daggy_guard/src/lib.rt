@@ -1,5 +1,5 @@
-//! All changes of a store, one at a time or many at once, that keep it acyclic, and the questions
-//! that both kinds of dag answer the same way.
+//! All changes of a store, one at a time or many at once, that keep it acyclic, and the queries
+//! that are the same for both kinds of dag.
 #![tactic(auto)]
 
 pub mod edge_batch;

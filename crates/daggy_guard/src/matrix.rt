@@ -1,4 +1,4 @@
-//! The matrix of the pairs of nodes that an edge joins, for both kinds of dag.
+//! The adjacency matrix, for both kinds of dag.
 ghost use Rattle.std.specs.Prelude.{ℕ, ◌↔◌, IfOk};
 ghost use Rattle.daggy_base.specs.Path.{AreJoined};
 ghost use Rattle.daggy_visit.specs.Visit.{HasPair};
@@ -8,7 +8,7 @@ use daggy_base::read_store::ReadStore;
 use daggy_visit::visit::AdjMatrix;
 use std::alloc::{AllocError, Global};
 
-/// The pairs of nodes that an edge of the store joins.
+/// The pairs of nodes that an edge of the store connects.
 ///
 /// # Errors
 ///

@@ -1,4 +1,4 @@
-//! The edges that enter a node, replaced all at once: what a dag does before it removes the old ones.
+//! Replacing all edges that enter a node: the part before the old edges are removed.
 ghost use Rattle.std.specs.Prelude.{◌≡◌, ◌≢◌, ℕ, ◌+◌, ◌<◌, ◌≤◌, ◌↔◌, ◌⊎◌, true, false, List, ◌++◌, length, Contains};
 ghost use Rattle.std.specs.Prelude.{map, reverse, take, vec_len, vec_capacity, IfOk, OnOk, IfErr, OnErr};
 ghost use Rattle.std.specs.List.{All};
@@ -18,7 +18,7 @@ use daggy_order::order::{Order, order_edge};
 use daggy_search::Scratch;
 use std::alloc::Global;
 
-// Puts the parents of items before `n` in the order, as far as that needs no search.
+// Moves the parents of the items before `n` in the order, as far as this needs no search.
 fn order_parents_without_search<Ix: IndexType, S: ReadStore<Ix>>(
     store: &S,
     order: &mut Order<Ix>,
@@ -123,8 +123,8 @@ fn order_up_to<Ix: IndexType, S: ReadStore<Ix>>(
 /// Updates the order so that the parent of each item precedes `n`. Returns false if `n` reaches one
 /// of them.
 ///
-/// It searches once, for the last of them in the order. What `n` reaches before that one is moved
-/// behind it, so each of the others precedes `n` then, or is reached too.
+/// It searches once, for the parent that is last in the order. The nodes before that parent that
+/// `n` reaches are moved after it, so that each other parent then precedes `n`, or is reached too.
 pub fn make_way_for_parents<Ix: IndexType, S: ReadStore<Ix>>(
     store: &mut S,
     order: &mut Order<Ix>,
@@ -192,8 +192,8 @@ fn take_back_parents<Ix: IndexType, S: Store<Ix>>(
     }
 }
 
-/// Adds an edge to `n` from the parent of each item, in their order, and returns the indices. If
-/// memory runs out nothing has changed, and the items are returned.
+/// Adds an edge to `n` from the parent of each item, in the order of the items, and returns the
+/// indices. If an allocation fails, nothing has changed, and the items are returned.
 pub fn add_parents<Ix: IndexType, S: Store<Ix>>(
     store: &mut S,
     alloc: Global,

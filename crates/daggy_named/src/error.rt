@@ -1,10 +1,22 @@
-//! Why a named node or a dependency was not added. Each error holds what the call took.
+//! Errors of adding named nodes and dependencies. Each error holds the arguments that the call
+//! took.
 ghost use Rattle.std.specs.Prelude.{◌≡◌};
 ghost use Rattle.daggy_named.specs.Refused.{key_and_weight_of, weight_of};
 
 use thiserror::Error;
 
 /// A node was not added. It holds the key and the weight of that node.
+///
+/// # Examples
+///
+/// ```
+/// let mut plan: Named<&'static str, u32, ()> = Named::new(rt.alloc());
+/// plan.add_node("sow", 1)?;
+/// match plan.add_node("sow", 2) {
+///     Ok(_) => assert!(rt; false),
+///     Err(error) => assert!(rt; error.into_parts() == ("sow", 2)),
+/// }
+/// ```
 #[derive(Debug, Drop, Eq, Error, PartialEq)]
 pub enum AddError<K, N> {
     /// Another node has the key.
@@ -32,6 +44,17 @@ impl<K, N> AddError<K, N> {
 }
 
 /// A dependency was not added. It holds the weight of its edge.
+///
+/// # Examples
+///
+/// ```
+/// let mut plan: Named<&'static str, u32, u32> = Named::new(rt.alloc());
+/// plan.add_node("sow", 1)?;
+/// let reap_needs_sow = Dependency { dependent: "reap", on: "sow" };
+/// let result = plan.add_dependency(reap_needs_sow, 90);
+/// assert!(rt; result == Err(DependError::UnknownDependent(90)));
+/// assert!(rt; result.map_err(|error| error.into_weight()) == Err(90));
+/// ```
 #[derive(Debug, Drop, Eq, Error, PartialEq)]
 pub enum DependError<E> {
     /// No node has the key of the node to depend on.
@@ -43,8 +66,8 @@ pub enum DependError<E> {
     /// The index type has no index left.
     #[error("no index left")]
     Full(E),
-    /// The node to depend on is the dependent one or already depends on it, so the edge would close
-    /// a cycle.
+    /// The node to depend on is the dependent node itself or already depends on it, so the edge
+    /// would close a cycle.
     #[error("would close a cycle")]
     WouldCycle(E),
     /// Out of memory for the edge.

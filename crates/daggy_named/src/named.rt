@@ -102,9 +102,9 @@ impl<K: Eq + Hash + Drop, N: Drop, E: Drop, Ix: IndexType> Named<K, N, E, Ix> {
         }
     }
 
-    /// A shared reference to the dag inside, for all methods that take `&StableDag`. Those that
-    /// take `&mut StableDag`, such as `reaches` and `path`, cannot be called on it; use `paths` of
-    /// the dag instead.
+    /// A shared reference to the dag inside, for all methods that take `&self`. Methods that take
+    /// `&mut self`, such as `reaches` and `path`, cannot be called on it; use `paths` of the dag
+    /// instead.
     pub fn dag(&self) -> &StableDag<N, E, Ix>
         ensures { result.now.graph ≡ self.now.graph }
     {
@@ -207,8 +207,8 @@ impl<K: Eq + Hash + Drop, N: Drop, E: Drop, Ix: IndexType> Named<K, N, E, Ix> {
         }
     }
 
-    /// Returns the index of the node with this key, which is added with the weight if there is none.
-    /// If there is one, the key and the weight are dropped.
+    /// Returns the index of the node with this key. If there is no such node, it is added with the
+    /// weight; otherwise `key` and `weight` are dropped.
     ///
     /// # Errors
     ///
@@ -220,6 +220,16 @@ impl<K: Eq + Hash + Drop, N: Drop, E: Drop, Ix: IndexType> Named<K, N, E, Ix> {
     /// # Complexity
     ///
     /// The same as [`add`](Named::add).
+    ///
+    /// # Examples
+    ///
+    /// ```
+    /// let mut plan: Named<&'static str, u32, ()> = Named::new(rt.alloc());
+    /// let sow = plan.get_or_add("sow", 1)?;
+    /// assert!(rt; plan.get_or_add("sow", 2) == Ok(sow));
+    /// // The old weight stays.
+    /// assert!(rt; plan.weight("sow") == Some(&1));
+    /// ```
     pub fn get_or_add(&mut self, key: K, weight: N) -> Result<NodeIndex<Ix>, AddError<K, N>>
         ensures present { IfSome (index_in K.eq self.old.keys key) (λ n.
             IsOkAnd result (λ r. Ix.number r ≡ n) × (self.new ≡ self.old)) }
@@ -300,9 +310,9 @@ impl<K: Eq + Hash + Drop, N: Drop, E: Drop, Ix: IndexType> Named<K, N, E, Ix> {
         }
     }
 
-    /// A shortest path from the node with the key `what` to the node with the key `on`: with the
-    /// edge that [`depend`](Named::depend) rejects, it is a cycle. `None` if there is no such path,
-    /// or no such node.
+    /// A shortest path from the node with the key `what` to the node with the key `on`. Together
+    /// with the edge that [`depend`](Named::depend) rejects, it is a cycle. `None` if there is no
+    /// such path, or no such node.
     ///
     /// The dag is unchanged; the call needs `&mut self` because it searches in memory of the dag.
     ///
@@ -351,6 +361,17 @@ impl<K: Eq + Hash + Drop, N: Drop, E: Drop, Ix: IndexType> Named<K, N, E, Ix> {
     /// # Complexity
     ///
     /// O(1) on average: one hash lookup.
+    ///
+    /// # Examples
+    ///
+    /// ```
+    /// let mut plan: Named<&'static str, u32, ()> = Named::new(rt.alloc());
+    /// plan.add_node("sow", 1)?;
+    /// if let Some(weight) = plan.weight_mut("sow") {
+    ///     *weight = 7;
+    /// }
+    /// assert!(rt; plan.weight("sow") == Some(&7));
+    /// ```
     pub fn weight_mut<Q: Equivalent<K>>(&mut self, key: Q) -> Option<&mut N>
         ensures* writes_back { sem 𝓛 (lends_weight K.row N.row E.row Ix.row
             K.Hash Ix.IndexType Ix.Clone self.entry (Q.equivalent key) result) }

@@ -61,8 +61,8 @@ where
 /// Whether two dags, of either kind and of any index types, have the same nodes and the same
 /// reachability relation.
 ///
-/// `same_reachability` asks this of two `Dag`s of one index type. It reduces a copy of each, without
-/// weights, from all nodes, and compares which nodes are adjacent then.
+/// `same_reachability` does the same for two `Dag`s with the same index type. It reduces a copy of
+/// each dag, without weights, from all nodes, and compares which nodes are adjacent afterwards.
 ///
 /// # Errors
 ///

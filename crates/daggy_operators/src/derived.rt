@@ -1,4 +1,4 @@
-//! A part of a dag, and a dag with its edges reversed.
+//! A subgraph of a dag, and a dag with its edges reversed.
 ghost use Rattle.std.specs.Prelude.{◌≡◌, ℕ, List, ◌↔◌, IfOk, Contains, map};
 ghost use Rattle.std.specs.List.{All};
 ghost use Rattle.daggy_base.specs.Path.{IsAcyclic, IsPath, Reaches};
@@ -10,11 +10,11 @@ use daggy_base::read_store::ReadStore;
 use daggy_dag::acyclic::{Acyclic, StableDag};
 use std::alloc::{AllocError, Global};
 
-/// The part of a dag that has the given nodes and the edges between them, at the same indices. The
-/// nodes' weights are borrowed; for the weight of an edge, ask the dag.
+/// The subgraph of a dag with the given nodes and the edges between them, at the same indices. The
+/// weights of the nodes are borrowed; the weight of an edge is in the dag, at the same index.
 ///
-/// What takes a dag takes the part, so a plan, a schedule, a ready queue, a picture or a reduction
-/// can be of a part alone, such as some targets and their ancestors. Indices that are not nodes of
+/// It can be passed to any function that takes a dag, so you can plan, schedule, draw or reduce
+/// only a part of a dag, such as some targets and their ancestors. Indices that are not nodes of
 /// the dag are ignored, and an index may be given more than once. Each list is in descending index
 /// order.
 ///
@@ -59,10 +59,10 @@ where
     part(alloc, dag, &marks, Direction::Outgoing)
 }
 
-/// The dag with each edge reversed, at the same indices. The nodes' weights are borrowed; for the
-/// weight of an edge, ask the dag. Each list is in descending index order.
+/// The dag with each edge reversed, at the same indices. The weights of the nodes are borrowed; the
+/// weight of an edge is in the dag, at the same index. Each list is in descending index order.
 ///
-/// A node reaches another in it if and only if that one reaches it in the dag.
+/// In it, `a` reaches `b` if and only if `b` reaches `a` in the dag.
 ///
 /// # Errors
 ///

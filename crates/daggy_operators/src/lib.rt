@@ -1,5 +1,5 @@
-//! Dags made of dags: a part of one, and one with its edges reversed. And whether two dags of any
-//! kinds have the same reachability.
+//! Dags made from dags: subgraphs, and dags with their edges reversed. Also, whether two dags of
+//! any kinds have the same reachability.
 #![tactic(auto)]
 
 mod comparing;

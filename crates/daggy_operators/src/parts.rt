@@ -1,4 +1,4 @@
-//! The chosen part of a dag, as slots and as a dag.
+//! A chosen subgraph of a dag, as slots and as a dag.
 ghost use Rattle.std.specs.Prelude.{◌≡◌, ℕ, ◌<◌, ◌≤◌, ◌↔◌, false, true, IfOk, Contains, map, replicate};
 ghost use Rattle.std.specs.Prelude.{length, vec_len, slice_index_or, option_copied};
 ghost use Rattle.std.specs.Option.{option_map};

@@ -31,7 +31,8 @@ pub record AreParents {N E : Type 0} (g : Graph N E) (a : ℕ) (entered : List B
   pub top : level a ≡ 0
   pub noted : (n : ℕ) → IsEntered entered n → n ≢ a → IsParent g entered level (slice_index parents n) n
 
--- b was entered, and each path from a to b has more nodes than b's level; so the one by the noted parents is a shortest
+-- b was entered, and each path from a to b has more nodes than b's level; so the path along the noted parents is a
+-- shortest one
 pub record LeadsBack {N E : Type 0} (g : Graph N E) (a b : ℕ) (entered : List Bool) (parents : List ℕ) : Type 0 where
   pub level : ℕ → ℕ
   pub noted : AreParents g a entered parents level

@@ -21,7 +21,7 @@ pub(crate) mod links;
 mod moving;
 mod sorting;
 
-/// An ordered list of distinct nodes that can be added at both ends, removed and moved.
+/// An ordered list of distinct nodes. Nodes can be added at both ends, removed and moved.
 ///
 /// Each node is linked to its neighbors and has a label. Labels ascend along the list, so comparing
 /// the labels of two nodes shows which comes first.
@@ -164,7 +164,7 @@ impl<Ix: IndexType> LabeledList<Ix> {
         }
     }
 
-    /// How many nodes it holds.
+    /// How many nodes it contains.
     #[inline]
     pub fn len(&self) -> usize
         ensures value { result ≡ length self.now.nodes }
@@ -209,7 +209,7 @@ impl<Ix: IndexType> LabeledList<Ix> {
         self.links.previous(n)
     }
 
-    /// Whether it holds the node.
+    /// Whether it contains the node.
     #[inline]
     pub fn holds(&self, n: NodeIndex<Ix>) -> bool
         ensures { IsTrue result ↔ Contains self.now.nodes (Ix.number n) }

@@ -24,7 +24,7 @@ pub use nodes::Nodes;
 pub use path::path_in;
 pub use reaching::reaches_in;
 
-/// An ordered list of distinct nodes that can be added at both ends, removed and moved. A dag
+/// An ordered list of distinct nodes. Nodes can be added at both ends, removed and moved. A dag
 /// maintains the order of its nodes; [`sorted`](Order::sorted) makes an order of any acyclic graph.
 /// Labels that ascend along the list show which of two nodes comes first, as in the
 /// order-maintenance list of Dietz and Sleator (1987).
@@ -80,7 +80,7 @@ impl<Ix: IndexType> Order<Ix> {
         }
     }
 
-    /// How many nodes it holds.
+    /// How many nodes it contains.
     #[inline]
     pub fn len(&self) -> usize
         ensures value { result ≡ length self.now }
@@ -206,7 +206,7 @@ impl<Ix: IndexType> Order<Ix> {
         Ok(())
     }
 
-    /// Reserves as much capacity as another order has.
+    /// Reserves at least the capacity of another order.
     ///
     /// # Errors
     ///
@@ -215,6 +215,18 @@ impl<Ix: IndexType> Order<Ix> {
     /// # Complexity
     ///
     /// The same as [`reserve`](Order::reserve).
+    ///
+    /// # Examples
+    ///
+    /// ```
+    /// let mut order: Order = Order::new(rt.alloc());
+    /// order.reserve(100)?;
+    /// let mut other: Order = Order::new(rt.alloc());
+    /// other.reserve_like(&order)?;
+    /// // This does not allocate.
+    /// other.push(NodeIndex::new(99))?;
+    /// assert!(rt; other.len() == 1);
+    /// ```
     pub fn reserve_like(&mut self, other: &Self) -> Result<(), AllocError>
         ensures { self.new ≡ self.old }
     {
@@ -230,6 +242,19 @@ impl<Ix: IndexType> Order<Ix> {
     /// # Complexity
     ///
     /// O(1), plus the length of a run that is still to be linked.
+    ///
+    /// # Examples
+    ///
+    /// ```
+    /// let mut order: Order = Order::new(rt.alloc());
+    /// let sow = NodeIndex::new(0);
+    /// let reap = NodeIndex::new(1);
+    /// order.push(sow)?;
+    /// order.push(reap)?;
+    /// order.remove(sow);
+    /// assert!(rt; order.len() == 1);
+    /// assert!(rt; order.holds(reap) && !order.holds(sow));
+    /// ```
     #[inline]
     pub fn remove(&mut self, n: NodeIndex<Ix>)
         requires { Contains self.old (Ix.number n) }
@@ -255,6 +280,17 @@ impl<Ix: IndexType> Order<Ix> {
     /// # Complexity
     ///
     /// O(1), plus the length of a run that is still to be linked.
+    ///
+    /// # Examples
+    ///
+    /// ```
+    /// let mut order: Order = Order::new(rt.alloc());
+    /// let reap = NodeIndex::new(1);
+    /// order.push(reap)?;
+    /// let freed = NodeIndex::new(0);
+    /// order.rename(reap, freed);
+    /// assert!(rt; order.nodes().next() == Some(freed));
+    /// ```
     #[inline]
     pub fn rename(&mut self, n: NodeIndex<Ix>, m: NodeIndex<Ix>)
         requires held { Contains self.old (Ix.number n) }
@@ -333,6 +369,18 @@ impl<Ix: IndexType> Order<Ix> {
     ///
     /// O(1), plus the length of a run that is still to be linked. If labels leave no room, some
     /// nodes are relabelled.
+    ///
+    /// # Examples
+    ///
+    /// ```
+    /// let mut order: Order = Order::new(rt.alloc());
+    /// let sow = NodeIndex::new(0);
+    /// let reap = NodeIndex::new(1);
+    /// order.push(reap)?;
+    /// order.push(sow)?;
+    /// order.move_before(sow, reap);
+    /// assert!(rt; order.stands_before(sow, reap));
+    /// ```
     #[inline(never)]
     pub fn move_before(&mut self, n: NodeIndex<Ix>, b: NodeIndex<Ix>)
         requires held { Contains self.old (Ix.number n) }
@@ -355,6 +403,18 @@ impl<Ix: IndexType> Order<Ix> {
     /// # Complexity
     ///
     /// O(position).
+    ///
+    /// # Examples
+    ///
+    /// ```
+    /// let mut order: Order = Order::new(rt.alloc());
+    /// let sow = NodeIndex::new(0);
+    /// let reap = NodeIndex::new(1);
+    /// order.push(sow)?;
+    /// order.push(reap)?;
+    /// assert!(rt; order.place(reap) == 1);
+    /// assert!(rt; order.at(1) == reap);
+    /// ```
     pub fn place(&self, n: NodeIndex<Ix>) -> usize
         requires { Contains self.now (Ix.number n) }
         ensures { result ≡ place self.now (Ix.number n) }
@@ -367,7 +427,8 @@ impl<Ix: IndexType> Order<Ix> {
         }
     }
 
-    /// The node at a position, counted from 0. To go through all nodes use [`nodes`](Order::nodes).
+    /// The node at a position, counted from 0. To iterate over all nodes, use
+    /// [`nodes`](Order::nodes).
     ///
     /// # Requires
     ///
@@ -397,6 +458,16 @@ impl<Ix: IndexType> Order<Ix> {
     /// # Complexity
     ///
     /// O(greatest index of a node).
+    ///
+    /// # Examples
+    ///
+    /// ```
+    /// let mut order: Order = Order::new(rt.alloc());
+    /// order.push(NodeIndex::new(0))?;
+    /// let copy = order.try_clone()?;
+    /// order.clear();
+    /// assert!(rt; order.len() == 0 && copy.len() == 1);
+    /// ```
     pub fn try_clone(&self) -> Result<Self, AllocError>
         ensures { IfOk result (λ o. o ≡ self.now) }
     {

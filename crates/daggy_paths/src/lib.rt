@@ -1,4 +1,4 @@
-//! Questions about the paths of an acyclic graph that is only borrowed.
+//! Queries about the paths of a borrowed acyclic graph.
 #![tactic(auto)]
 
 mod edges;

@@ -18,11 +18,25 @@ use std::marker::Model;
 
 mod descendants;
 
-/// Answers questions about the paths of an acyclic graph that it borrows.
+/// Answers queries about the paths of an acyclic graph that it borrows.
 ///
-/// It has its own memory for searches. So the graph can be read at the same time, as in a loop over
-/// the neighbors of a node, and several values can borrow one graph. Making one takes O(nodes), so
-/// make one for many questions.
+/// It has its own memory for searches, so the graph can be read at the same time, as in a loop over
+/// the neighbors of a node, and several `Paths` can borrow one graph. Making one takes O(nodes), so
+/// use it for many queries.
+///
+/// # Examples
+///
+/// ```
+/// let mut dag: Dag<&'static str, ()> = Dag::new(rt.alloc());
+/// let sow = dag.add_node("sow")?;
+/// let (_, hoe) = dag.add_child(sow, (), "hoe")?;
+/// let (_, reap) = dag.add_child(hoe, (), "reap")?;
+/// let mut paths = dag.paths()?;
+/// assert!(rt; paths.reaches(sow, reap));
+/// assert!(rt; paths.would_close_cycle(reap, sow));
+/// assert!(rt; paths.descendants(&[sow])?.as_slice() == [hoe, reap].as_slice());
+/// assert!(rt; paths.ancestors(&[reap])?.as_slice() == [sow, hoe].as_slice());
+/// ```
 #[derive(Drop)]
 pub struct Paths<'d, Ix: IndexType, S: ReadStore<Ix>> {
     forward: Reading<'d, Ix, S>,
@@ -80,7 +94,8 @@ impl<'d, Ix: IndexType, S: ReadStore<Ix>> Paths<'d, Ix, S> {
         })
     }
 
-    /// Borrows any graph and sorts its nodes topologically, or returns `None` if it has a cycle.
+    /// Borrows any graph and sorts its nodes topologically. Returns `None` if the graph has a
+    /// cycle.
     ///
     /// # Errors
     ///
@@ -89,6 +104,21 @@ impl<'d, Ix: IndexType, S: ReadStore<Ix>> Paths<'d, Ix, S> {
     /// # Complexity
     ///
     /// O(nodes + edges).
+    ///
+    /// # Examples
+    ///
+    /// ```
+    /// let mut graph: DiGraph<&'static str, ()> = DiGraph::new(rt.alloc());
+    /// let hen = graph.add_node("hen")?;
+    /// let egg = graph.add_node("egg")?;
+    /// graph.add_edge(hen, egg, ())?;
+    /// match Paths::sorted(rt.alloc(), &graph)? {
+    ///     Some(mut paths) => assert!(rt; paths.reaches(hen, egg)),
+    ///     None => assert!(rt; false),
+    /// }
+    /// graph.add_edge(egg, hen, ())?;
+    /// assert!(rt; Paths::sorted(rt.alloc(), &graph)?.is_none());
+    /// ```
     pub fn sorted(alloc: Global, store: &'d S) -> Result<Option<Self>, AllocError>
         ensures graph { IfOk result (λ found. IfSome found (λ paths.
             paths.graph ≡ S.graph store.now)) }
@@ -187,8 +217,8 @@ impl<'d, Ix: IndexType, S: ReadStore<Ix>> Paths<'d, Ix, S> {
     /// Returns the edges along a shortest path from `a` to `b`, in order, or `None` if no path leads
     /// from `a` to `b`. From an existing node to itself there are none.
     ///
-    /// From each node of the path to the next it has the edge that the store's `find_edge` returns,
-    /// the newest of parallel edges.
+    /// Of parallel edges along the path it returns the newest, which is the edge that the store's
+    /// `find_edge` returns.
     ///
     /// # Errors
     ///
@@ -197,6 +227,20 @@ impl<'d, Ix: IndexType, S: ReadStore<Ix>> Paths<'d, Ix, S> {
     /// # Complexity
     ///
     /// The same as [`path`](Paths::path), plus the cost of `find_edge` for each edge.
+    ///
+    /// # Examples
+    ///
+    /// ```
+    /// let mut dag: Dag<&'static str, u32> = Dag::new(rt.alloc());
+    /// let sow = dag.add_node("sow")?;
+    /// let (days, hoe) = dag.add_child(sow, 30, "hoe")?;
+    /// let (more, reap) = dag.add_child(hoe, 60, "reap")?;
+    /// let mut paths = dag.paths()?;
+    /// let nodes = paths.path(sow, reap)?;
+    /// assert!(rt; nodes.is_some_and(|nodes| nodes.as_slice() == [sow, hoe, reap].as_slice()));
+    /// let edges = paths.path_edges(sow, reap)?;
+    /// assert!(rt; edges.is_some_and(|edges| edges.as_slice() == [days, more].as_slice()));
+    /// ```
     pub fn path_edges(
         &mut self,
         a: NodeIndex<Ix>,

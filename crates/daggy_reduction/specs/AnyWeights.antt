@@ -16,13 +16,15 @@ pub record IsReducedDag {N E : Type 0} (g new : Graph N E) : Type 0 where
   pub all : ReachAll g roots
   pub reduced : IsReduction kind roots g new
 
--- The reductions of two dags on the same nodes join the same pairs if and only if the dags have the same reachability.
+-- The reductions of two dags on the same nodes have the same adjacent pairs if and only if the dags have the same
+-- reachability.
 abbrev pub AreAlike : (N E M F : Type 0) → Type 0
 AreAlike N E M F =
     (g g' : Graph N E) (h h' : Graph M F) → IsReducedDag g g' → IsReducedDag h h' → HaveSameNodes g h
     → JoinSamePairs g' h' ↔ HaveSameReachability g h
 
--- every graph with the same reachability as a dag joins the pairs that the dag's reduction joins below the roots
+-- in every graph with the same reachability as a dag, the pairs that are adjacent below the roots in the dag's
+-- reduction are adjacent
 abbrev pub IsLeastOfAll : (N E M F : Type 0) → Type 0
 IsLeastOfAll N E M F =
     (limit : ℕ) (kind : Kind) (roots : List ℕ) (g g' : Graph N E) (h : Graph M F) → IsDag limit g

@@ -101,8 +101,8 @@ fn entered_nodes<Ix: IndexType>(
     Ok(found)
 }
 
-/// The existing nodes of `nodes` and all nodes reachable from them, each once, by their positions
-/// in an order of all nodes.
+/// The existing nodes of `nodes` and all nodes reachable from them, each once, sorted by their
+/// positions in an order of all nodes.
 ///
 /// # Requires
 ///
@@ -117,6 +117,21 @@ fn entered_nodes<Ix: IndexType>(
 /// # Complexity
 ///
 /// O(nodes and edges visited), plus the cost of sorting the nodes found.
+///
+/// # Examples
+///
+/// ```
+/// let mut graph: DiGraph<&'static str, ()> = DiGraph::new(rt.alloc());
+/// let sow = graph.add_node("sow")?;
+/// let reap = graph.add_node("reap")?;
+/// graph.add_edge(sow, reap, ())?;
+/// let mut scratch = Scratch::new(rt.alloc());
+/// scratch.reserve(graph.node_count(), 0)?;
+/// if let Some(mut order) = Order::sorted(rt.alloc(), &mut graph, &mut scratch)? {
+///     let found = affected(rt.alloc(), &mut graph, &mut order, &[sow], &mut scratch)?;
+///     assert!(rt; found.as_slice() == [sow, reap].as_slice());
+/// }
+/// ```
 pub fn affected<Ix: IndexType, S: EdgeSource<Ix>>(
     alloc: Global,
     source: &mut S,
@@ -139,7 +154,7 @@ pub fn affected<Ix: IndexType, S: EdgeSource<Ix>>(
     // Called only for its postcondition: the graph is well formed.
     let _bound = source.node_bound();
     let count = queue_below(source, nodes, &mut scratch.work);
-    // Going through the whole order takes less time than sorting half of it.
+    // Iterating over the whole order takes less time than sorting half of it.
     if order.len() / 2 <= count {
         return entered_nodes(alloc, order, &scratch.work, count);
     }
@@ -148,8 +163,8 @@ pub fn affected<Ix: IndexType, S: EdgeSource<Ix>>(
     Ok(found)
 }
 
-/// The descendants of some nodes, each once, by their positions in an order of all nodes: the nodes
-/// to which a path of one or more edges leads from one of `nodes`.
+/// The descendants of `nodes`, each once, sorted by their positions in an order of all nodes: the
+/// nodes to which a path of one or more edges leads from one of `nodes`.
 ///
 /// # Requires
 ///
@@ -164,6 +179,21 @@ pub fn affected<Ix: IndexType, S: EdgeSource<Ix>>(
 /// # Complexity
 ///
 /// O(nodes and edges visited), plus the cost of sorting the nodes found.
+///
+/// # Examples
+///
+/// ```
+/// let mut graph: DiGraph<&'static str, ()> = DiGraph::new(rt.alloc());
+/// let sow = graph.add_node("sow")?;
+/// let reap = graph.add_node("reap")?;
+/// graph.add_edge(sow, reap, ())?;
+/// let mut scratch = Scratch::new(rt.alloc());
+/// scratch.reserve(graph.node_count(), 0)?;
+/// if let Some(mut order) = Order::sorted(rt.alloc(), &mut graph, &mut scratch)? {
+///     let found = descendants(rt.alloc(), &mut graph, &mut order, &[sow], &mut scratch)?;
+///     assert!(rt; found.as_slice() == [reap].as_slice());
+/// }
+/// ```
 pub fn descendants<Ix: IndexType, S: EdgeSource<Ix>>(
     alloc: Global,
     source: &mut S,

@@ -13,7 +13,7 @@ use daggy_base::source::EdgeSource;
 use daggy_redundant::flags::flag;
 use daggy_search::{Arc, BLOCK, Row, Segment, Worklist};
 
-// The nodes of an order at the places from `low` on, before `high`.
+// The nodes at the positions of an order from `low` up to, not including, `high`.
 #[derive(Clone, Copy, Drop)]
 struct Block {
     low: usize,
@@ -27,7 +27,7 @@ struct Reached {
     indirect: Row,
 }
 
-// The block that begins at a place, of `count` places in all.
+// The block that begins at a position, of `count` positions in all.
 #[inline]
 fn block_at(low: usize, count: usize) -> Block
     requires { low < count }
@@ -45,7 +45,7 @@ fn block_at(low: usize, count: usize) -> Block
     Block { low, high }
 }
 
-// Adds a child at the place `p`, and what it reaches by its row.
+// Adds a child at the position `p`, and the nodes in its row.
 #[inline]
 fn reach_over(reached: &mut Reached, p: usize, block: Block, rows: &[Row])
     requires rows_fit { block.high ≤ length rows.now }
@@ -67,7 +67,7 @@ fn reach_over(reached: &mut Reached, p: usize, block: Block, rows: &[Row])
     }
     if block.low <= p {
         reached.direct.insert(p - block.low);
-        // Another child reaches this one, and all that it reaches.
+        // Another child reaches this one, and everything that it reaches.
         if reached.indirect.contains(p - block.low) {
             return;
         }
@@ -75,7 +75,7 @@ fn reach_over(reached: &mut Reached, p: usize, block: Block, rows: &[Row])
     reached.indirect.union_with(&rows[p]);
 }
 
-// What a node reaches in a block, by the rows of its children.
+// The nodes of a block that a node reaches, from the rows of its children.
 fn reach_from<Ix: IndexType, S: EdgeSource<Ix>>(
     source: &mut S,
     arcs: &[Arc<Ix>],
@@ -108,7 +108,7 @@ fn reach_from<Ix: IndexType, S: EdgeSource<Ix>>(
     reached
 }
 
-// Whether a place is one of a block and in the row.
+// Whether a position is in a block and in the row.
 #[inline]
 fn is_in(row: &Row, block: Block, p: usize) -> bool
     requires { block.high ≤ block.low + 512 }
@@ -202,7 +202,7 @@ fn union(reached: Reached) -> Row
     row
 }
 
-// Flags the redundant edges into the block that begins at the place `low`, of the first `count`
+// Flags the redundant edges into the block that begins at the position `low`, of the first `count`
 // nodes of a worklist, takes them out of their segments, and returns where the block ends.
 //
 // The nodes before the end of the block get their rows from the last one to the first: each row is

@@ -75,7 +75,7 @@ fn flag_blocks<Ix: IndexType, S: EdgeSource<Ix>, L: ListArcs<Ix, S>>(
 }
 
 // Writes the redundant edges below some roots to the front of `scratch.found`, and returns how many
-// there are. `L` tells how edges are listed.
+// there are. `L` determines how edges are listed.
 pub(crate) fn leave_redundant_by_blocks<Ix: IndexType, S: EdgeSource<Ix>, L: ListArcs<Ix, S>>(
     source: &mut S,
     order: &Order<Ix>,
@@ -112,7 +112,8 @@ pub(crate) fn leave_redundant_by_blocks<Ix: IndexType, S: EdgeSource<Ix>, L: Lis
 }
 
 /// The same as [`redundant_edges_in`](crate::bounded::redundant_edges_in), found by rows of bits
-/// for 512 nodes at a time: a node's row has the nodes of the block that it reaches.
+/// for 512 nodes at a time: the row of a node has the bits of the nodes that it reaches in the
+/// block.
 ///
 /// # Requires
 ///
@@ -127,7 +128,7 @@ pub(crate) fn leave_redundant_by_blocks<Ix: IndexType, S: EdgeSource<Ix>, L: Lis
 ///
 /// # Complexity
 ///
-/// Reads each edge at most twice, to find the nodes and to list the edges side by side, and then at
+/// Reads each edge at most twice, to find the nodes and to list the edges in one array, and then at
 /// most twice for each block of 512 nodes. Does not allocate.
 pub fn redundant_edges_by_blocks<'s, Ix: IndexType, S: EdgeSource<Ix>>(
     scratch: &'s mut Scratch<Ix>,

@@ -114,8 +114,8 @@ fn flag_children_in<Ix: IndexType, S: EdgeSource<Ix>>(
     flag_marked(source, u, work, flags);
 }
 
-// Flags the edges that are redundant below some roots: `flags` has an index at the places of those
-// edges, and `end` elsewhere.
+// Flags the edges that are redundant below some roots: `flags` has an index at the positions of
+// those edges, and `end` elsewhere.
 fn flag_redundant_in<Ix: IndexType, S: EdgeSource<Ix>>(
     source: &mut S,
     order: &Order<Ix>,
@@ -184,8 +184,8 @@ pub(crate) fn leave_redundant_in<Ix: IndexType, S: EdgeSource<Ix>>(
 /// The same as [`redundant_edges`](daggy_redundant::redundant::redundant_edges), found with a
 /// topological order of the nodes.
 ///
-/// The search from a node enters only nodes before its last child: a longer path to a child passes
-/// through no others.
+/// The search from a node enters only nodes before its last child, since a longer path to a child
+/// passes through no others.
 ///
 /// # Requires
 ///
@@ -200,6 +200,24 @@ pub(crate) fn leave_redundant_in<Ix: IndexType, S: EdgeSource<Ix>>(
 ///
 /// One search for each node that the roots reach, which stays before the node's last child in
 /// `order`. Does not allocate.
+///
+/// # Examples
+///
+/// ```
+/// let mut graph: DiGraph<&'static str, ()> = DiGraph::new(rt.alloc());
+/// let sow = graph.add_node("sow")?;
+/// let grow = graph.add_node("grow")?;
+/// let reap = graph.add_node("reap")?;
+/// graph.add_edge(sow, grow, ())?;
+/// graph.add_edge(grow, reap, ())?;
+/// let direct = graph.add_edge(sow, reap, ())?;
+/// let mut scratch = Scratch::new(rt.alloc());
+/// scratch.reserve(graph.node_count(), graph.edge_count())?;
+/// if let Some(order) = Order::sorted(rt.alloc(), &mut graph, &mut scratch)? {
+///     let redundant = redundant_edges_in(&mut scratch, &mut graph, &order, &[sow]);
+///     assert!(rt; redundant == [direct].as_slice());
+/// }
+/// ```
 pub fn redundant_edges_in<'s, Ix: IndexType, S: EdgeSource<Ix>>(
     scratch: &'s mut Scratch<Ix>,
     source: &mut S,

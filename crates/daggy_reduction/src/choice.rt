@@ -16,16 +16,17 @@ use daggy_base::source::IndexedSource;
 use daggy_order::order::Order;
 use daggy_search::{BLOCK, Scratch, Worklist};
 
-// About how many nodes a search reaches in a random graph of this size: 8^c, if c edges leave a node
-// on average.
+// An estimate of how many nodes a search reaches in a random graph of this size: 8^c, if c edges
+// leave a node on average.
 fn nodes_reached(nodes: usize, edges: usize) -> usize {
     let exponent = edges.saturating_mul(3) / nodes.max(1);
     1 << exponent.min(62)
 }
 
-// Whether blocks take fewer looks than the searches are expected to take. A search stays before the
-// last child of its node, and reaches about `nodes_reached` nodes if there are as many. Blocks are
-// not for fewer than four nodes, where the passes that list the edges take more looks than searches.
+// Whether blocks take fewer edge reads than searches are expected to take. A search stays before
+// the last child of its node, and reaches about `nodes_reached` nodes if there are as many. Blocks
+// are not for fewer than four nodes, where the passes that list the edges read more edges than
+// searches do.
 fn blocks_pay<Ix: IndexType, S: IndexedSource<Ix>>(
     source: &mut S,
     order: &Order<Ix>,
@@ -53,8 +54,8 @@ fn blocks_pay<Ix: IndexType, S: IndexedSource<Ix>>(
     looks < spanned(source, order, work)
 }
 
-// As `leave_redundant_in`, by blocks if they pay and there is memory for their rows. `nodes` and
-// `edges` are how many there are.
+// The same as `leave_redundant_in`, by blocks if they pay and there is memory for their rows.
+// `nodes` and `edges` are the numbers of nodes and edges.
 pub(crate) fn leave_redundant_either_way<Ix: IndexType, S: IndexedSource<Ix>>(
     source: &mut S,
     order: &Order<Ix>,

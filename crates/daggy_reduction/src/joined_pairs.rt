@@ -1,4 +1,4 @@
-//! Whether two graphs join the same pairs.
+//! Whether two graphs have the same adjacent pairs of nodes.
 ghost use Rattle.std.specs.Prelude.{◌≡◌, ℕ, ◌+◌, ◌*◌, ◌≤◌, ◌↔◌, ◌⊎◌, true, false, length};
 ghost use Rattle.std.specs.Prelude.{slice_index_or, IsTrue};
 ghost use Rattle.daggy_base.specs.Graph.{node_bound, edge_count, out_list};
@@ -64,7 +64,7 @@ fn are_children_marked<Ix: IndexType, S: EdgeSource<Ix>>(
     true
 }
 
-// Whether one graph joins all pairs of nodes that another joins.
+// Whether all adjacent pairs of one graph are adjacent in another.
 fn joins_all<Ix: IndexType, A: EdgeSource<Ix>, B: EdgeSource<Ix>>(
     a: &mut A,
     b: &mut B,
@@ -96,12 +96,12 @@ fn joins_all<Ix: IndexType, A: EdgeSource<Ix>, B: EdgeSource<Ix>>(
     true
 }
 
-/// Whether two graphs join the same pairs of nodes. The worklist must have memory for the nodes of
-/// both.
+/// Whether two graphs have the same adjacent pairs of nodes. The worklist must have memory for the
+/// nodes of both.
 ///
 /// # Complexity
 ///
-/// O(nodes + edges) of both graphs: looks at each edge at most twice. Does not allocate.
+/// O(nodes + edges) of both graphs: reads each edge at most twice. Does not allocate.
 pub fn join_same_pairs<Ix: IndexType, A: EdgeSource<Ix>, B: EdgeSource<Ix>>(
     a: &mut A,
     b: &mut B,

@@ -15,7 +15,7 @@ use daggy_order::order::Order;
 use daggy_redundant::roots::queue_below;
 use daggy_search::Worklist;
 
-// Appends a node to the list of a worklist if it is entered, with its place as its cursor, and
+// Appends a node to the list of a worklist if it is entered, with its position as its cursor, and
 // returns the new length. The cursor of any other node becomes `end`.
 #[inline]
 fn list_if_entered<Ix: IndexType>(work: &mut Worklist<Ix>, len: usize, n: NodeIndex<Ix>) -> usize
@@ -43,8 +43,8 @@ fn list_if_entered<Ix: IndexType>(work: &mut Worklist<Ix>, len: usize, n: NodeIn
     len + 1
 }
 
-// Lists the entered nodes of an order, each with its place as its cursor, and returns how many
-// there are. The cursors of the other nodes of the order are no places in this list.
+// Lists the entered nodes of an order, each with its position as its cursor, and returns how many
+// there are. The cursors of the other nodes of the order are not positions in this list.
 fn list_entered<Ix: IndexType>(order: &Order<Ix>, work: &mut Worklist<Ix>) -> usize
     requires distinct { AreDistinct order.now }
     requires low { (n : ℕ) → Contains order.now n → n < work.old.size }
@@ -67,7 +67,7 @@ fn list_entered<Ix: IndexType>(order: &Order<Ix>, work: &mut Worklist<Ix>) -> us
     len
 }
 
-// Lists all nodes reachable from the existing roots in their order, each with its place as its
+// Lists all nodes reachable from the existing roots in their order, each with its position as its
 // cursor, and returns how many there are.
 pub(crate) fn list_below<Ix: IndexType, S: EdgeSource<Ix>>(
     source: &mut S,

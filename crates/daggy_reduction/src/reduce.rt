@@ -51,6 +51,24 @@ pub fn remove_edges<Ix: IndexType, S: Store<Ix>>(store: &mut S, edges: &[EdgeInd
 /// One search for each node that the roots reach, which stays before the node's last child in
 /// `order`; or, where that is expected to read more edges, O(nodes * edges / 512) steps of 512 bits
 /// each. Then the cost of the removals.
+///
+/// # Examples
+///
+/// ```
+/// let mut graph: DiGraph<&'static str, ()> = DiGraph::new(rt.alloc());
+/// let sow = graph.add_node("sow")?;
+/// let grow = graph.add_node("grow")?;
+/// let reap = graph.add_node("reap")?;
+/// graph.add_edge(sow, grow, ())?;
+/// graph.add_edge(grow, reap, ())?;
+/// graph.add_edge(sow, reap, ())?;
+/// let mut scratch = Scratch::new(rt.alloc());
+/// scratch.reserve(graph.node_count(), 0)?;
+/// if let Some(order) = Order::sorted(rt.alloc(), &mut graph, &mut scratch)? {
+///     transitive_reduce(&mut graph, &order, &mut scratch, &[sow])?;
+///     assert!(rt; graph.edge_count() == 2 && !graph.contains_edge(sow, reap));
+/// }
+/// ```
 pub fn transitive_reduce<Ix: IndexType, S: Store<Ix>>(
     store: &mut S,
     order: &Order<Ix>,

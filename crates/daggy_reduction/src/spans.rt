@@ -1,4 +1,4 @@
-//! How many edges searches would look at, told from the ends of all edges.
+//! How many edges searches would read, computed from the endpoints of all edges.
 ghost use Rattle.std.specs.Prelude.{◌≡◌, ℕ, ◌+◌, ◌<◌, ◌≤◌, ◌⊎◌, length, take, Contains};
 ghost use Rattle.std.specs.Prelude.{slice_index, slice_index_or, slice_set};
 ghost use Rattle.daggy_base.specs.Graph.{node_bound, edge_count, out_list};
@@ -91,7 +91,7 @@ fn note_edges<Ix: IndexType, S: IndexedSource<Ix>>(
     }
 }
 
-// Replaces the count at each node by the sum of those before it in the order.
+// Replaces the count at each node by the sum of the counts before it in the order.
 fn sum_before<Ix: IndexType>(order: &Order<Ix>, work: &mut Worklist<Ix>)
     requires distinct { AreDistinct order.now }
     requires low { (n : ℕ) → Contains order.now n → n < work.old.size }
@@ -111,8 +111,8 @@ fn sum_before<Ix: IndexType>(order: &Order<Ix>, work: &mut Worklist<Ix>)
     }
 }
 
-// The sum over all nodes of how many edges leave the nodes from each up to its last child, or the
-// greatest number if it is more.
+// The sum, over all nodes, of the number of edges that leave the nodes from that node up to its
+// last child; the greatest number if the sum is greater.
 pub(crate) fn spanned<Ix: IndexType, S: IndexedSource<Ix>>(
     source: &mut S,
     order: &Order<Ix>,

@@ -13,7 +13,7 @@ use daggy_order::order::Order;
 use daggy_visit::visit::AdjMatrix;
 use std::alloc::{AllocError, Global};
 
-// Joins a node with its children, and with all that their rows have.
+// Adds to the row of a node its children, and everything in their rows.
 fn join_reached<Ix: IndexType, S: EdgeSource<Ix>>(
     source: &mut S,
     n: NodeIndex<Ix>,
@@ -57,6 +57,21 @@ fn join_reached<Ix: IndexType, S: EdgeSource<Ix>>(
 ///
 /// Reads each edge once, and takes O(node bound / 64) for each. The matrix takes a bit for each
 /// pair.
+///
+/// # Examples
+///
+/// ```
+/// let mut graph: DiGraph<&'static str, ()> = DiGraph::new(rt.alloc());
+/// let sow = graph.add_node("sow")?;
+/// let reap = graph.add_node("reap")?;
+/// graph.add_edge(sow, reap, ())?;
+/// let mut scratch = Scratch::new(rt.alloc());
+/// scratch.reserve(graph.node_count(), 0)?;
+/// if let Some(order) = Order::sorted(rt.alloc(), &mut graph, &mut scratch)? {
+///     let closure = transitive_closure(&mut graph, &order, rt.alloc())?;
+///     assert!(rt; closure.has(sow, reap) && !closure.has(reap, sow));
+/// }
+/// ```
 pub fn transitive_closure<Ix: IndexType, S: EdgeSource<Ix>>(
     source: &mut S,
     order: &Order<Ix>,

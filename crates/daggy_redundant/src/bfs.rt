@@ -12,7 +12,8 @@ use daggy_base::link::Link;
 use daggy_base::source::EdgeSource;
 use daggy_search::Worklist;
 
-/// Appends a node to the queue of a worklist unless it is there, and returns the new length.
+/// Appends a node to the queue of a worklist unless the queue contains it, and returns the new
+/// length.
 #[inline]
 pub fn enqueue<Ix: IndexType>(work: &mut Worklist<Ix>, len: usize, n: NodeIndex<Ix>) -> usize
     requires low { Ix.number n < length work.old.entered }

@@ -1,4 +1,5 @@
-//! The redundant edges of a graph, by a breadth-first search from each node below the roots.
+//! The redundant edges of a graph, by a breadth-first search from each node that is reachable from
+//! the roots.
 #![tactic(auto)]
 
 pub mod bfs;

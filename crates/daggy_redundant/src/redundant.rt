@@ -113,7 +113,7 @@ pub fn front<T>(list: &[T], count: usize) -> &[T]
     &list[..count]
 }
 
-/// The edges that are redundant below the given roots, each once, in ascending order.
+/// The edges that are redundant below the given roots, each once, in ascending index order.
 ///
 /// The result borrows the scratch, whose capacity does not change.
 ///

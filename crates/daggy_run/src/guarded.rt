@@ -40,9 +40,22 @@ mod acyclic;
 
 /// A dag that takes commands. Both kinds do.
 ///
-/// The adding calls require existing endpoints and an index that is left: test with
+/// The methods that add require existing endpoints and a free index: test with
 /// [`has_node`](GuardedDag::has_node), [`can_add_node`](GuardedDag::can_add_node) and
 /// [`can_add_edge`](GuardedDag::can_add_edge). A call that fails changes nothing.
+///
+/// # Examples
+///
+/// ```
+/// fn add_one<D: GuardedDag<u32, u32, u32>>(dag: &mut D) -> bool {
+///     dag.can_add_node() && dag.add_node(1).is_ok()
+/// }
+///
+/// let mut dag: Dag<u32, u32> = Dag::new(rt.alloc());
+/// assert!(rt; add_one(&mut dag) && dag.node_count() == 1);
+/// let mut dag: StableDag<u32, u32> = StableDag::new(rt.alloc());
+/// assert!(rt; add_one(&mut dag) && dag.node_count() == 1);
+/// ```
 pub trait GuardedDag<N, E, Ix: IndexType> {
     // The graph.
     ghost graph: { Self → Graph N E };
@@ -106,6 +119,21 @@ pub trait GuardedDag<N, E, Ix: IndexType> {
     ///
     /// The same as `add_edge` of a dag: O(1) if `a` precedes `b` in its order, and otherwise a
     /// search.
+    ///
+    /// # Examples
+    ///
+    /// ```
+    /// fn connect<D: GuardedDag<u32, u32, u32>>(dag: &mut D, a: NodeIndex, b: NodeIndex) -> bool {
+    ///     let may_add = dag.has_node(a) && dag.has_node(b) && dag.can_add_edge();
+    ///     may_add && dag.add_edge(a, b, 90).is_ok()
+    /// }
+    ///
+    /// let mut dag: StableDag<u32, u32> = StableDag::new(rt.alloc());
+    /// let sow = dag.add_node(1)?;
+    /// let reap = dag.add_node(2)?;
+    /// assert!(rt; connect(&mut dag, sow, reap));
+    /// assert!(rt; !connect(&mut dag, reap, sow));
+    /// ```
     fn add_edge(
         &mut self,
         a: NodeIndex<Ix>,
@@ -246,11 +274,11 @@ pub trait GuardedDag<N, E, Ix: IndexType> {
     ///
     /// # Errors
     ///
-    /// The first edge that cannot be added decides: `EdgesError::BadEndpoint` if an endpoint of it
-    /// does not exist, `EdgesError::Full` if no index is left for it, and `EdgesError::Memory` if
-    /// an allocation fails. If there is none, `EdgesError::WouldCycle` if all edges together close
-    /// a cycle. Each error holds the weights of the edges up to the one that failed, and the dag is
-    /// unchanged.
+    /// Returns the error of the first edge that cannot be added: `EdgesError::BadEndpoint` if one
+    /// of its endpoints does not exist, `EdgesError::Full` if no index is left for it, and
+    /// `EdgesError::Memory` if an allocation fails. If there is no such edge,
+    /// `EdgesError::WouldCycle` if all edges together close a cycle. Each error holds the weights
+    /// of the edges up to the one that failed, and the dag is unchanged.
     ///
     /// # Complexity
     ///
@@ -348,7 +376,7 @@ pub trait GuardedDag<N, E, Ix: IndexType> {
         ensures cleared { graph self.new ≡ empty }
         ensures acyclic { IsAcyclic (graph self.new) };
 
-    /// Removes the edges that are redundant below `roots`, the one with the highest index first.
+    /// Removes the edges that are redundant below `roots`, from the highest index down.
     ///
     /// # Errors
     ///
@@ -385,6 +413,21 @@ pub trait GuardedDag<N, E, Ix: IndexType> {
     /// # Requires
     ///
     /// - `e` is an edge of the dag. Test: `edge_endpoints(e).is_some()`.
+    ///
+    /// # Examples
+    ///
+    /// ```
+    /// fn newest_child<D: GuardedDag<u32, u32, u32>>(dag: &D, n: NodeIndex) -> Option<NodeIndex> {
+    ///     let e = dag.first_child(n);
+    ///     if dag.edge_endpoints(e).is_some() { Some(dag.child_edge(e).0) } else { None }
+    /// }
+    ///
+    /// let mut dag: Dag<u32, u32> = Dag::new(rt.alloc());
+    /// let sow = dag.add_node(1)?;
+    /// let (_, reap) = dag.add_child(sow, 90, 2)?;
+    /// assert!(rt; newest_child(&dag, sow) == Some(reap));
+    /// assert!(rt; newest_child(&dag, reap).is_none());
+    /// ```
     fn child_edge(&self, e: EdgeIndex<Ix>) -> (NodeIndex<Ix>, EdgeIndex<Ix>)
         requires { HasEdge (graph self.now) (Ix.number e) }
         ensures { IsLook Ix.greatest (graph self.now) (Ix.number e) (Ix.number result.0)

@@ -1,4 +1,4 @@
-//! Lists of commands over a dag of either kind, each with its reply.
+//! Running lists of commands on a dag of either kind, with a reply to each.
 #![tactic(auto)]
 
 pub mod guarded;

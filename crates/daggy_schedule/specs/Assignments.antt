@@ -1,4 +1,4 @@
--- Nodes that are done by workers, each of which does one node at a time.
+-- Nodes that are processed by workers, each of which processes one node at a time.
 use Rattle.std.specs.Prelude.{◌≡◌, ◌≢◌, ℕ, ◌+◌, ◌-◌, ◌*◌, ◌^◌, ◌<◌, ◌≤◌, ◌⊎◌, List, slice_index}
 use Rattle.daggy_base.specs.Graph.{Graph, HasNode}
 use Rattle.std.specs.Ordering.{nat_cmp}
@@ -7,8 +7,9 @@ use Rattle.daggy_base.specs.Ordered.{IsOrderOf}
 use Rattle.daggy_schedule.specs.Times.{span, AreFeasible, AreDoneBy, AreLatest, IsCritical}
 use Rattle.daggy_schedule.specs.LeastFirst.{Precedes}
 
--- Each node starts after its parents have finished, and is done by a worker below the count, who has either finished it
--- when another starts or starts it when that has finished. The makespan is when the last node finishes.
+-- Each node starts after its parents have finished, and is processed by a worker whose number is below the count. Of
+-- two nodes of one worker, one has finished when the other starts. The makespan is the time when the last node
+-- finishes.
 pub record IsAssignment {N E : Type 0} (g : Graph N E) (durations starts workers : List ℕ) (count makespan : ℕ) : Type 0 where
   pub feasible : AreFeasible g durations (slice_index starts)
   pub below : (n : ℕ) → HasNode g n → slice_index workers n < count
@@ -28,9 +29,10 @@ AreKeptBusy g durations starts workers count =
     → (n : ℕ) × HasNode g n × (slice_index workers n ≡ worker) × (slice_index starts n ≤ time)
     × (time < slice_index starts n + slice_index durations n)
 
--- A node that starts while another waits, whose parents have started before and finished by then, comes first: by the
--- latest starts with which all nodes can finish by some time if each waits only for its parents, and then by the
--- indices. The earlier its latest start, the longer is the longest path from a node.
+-- If a node starts while another node waits whose parents have started before and finished by then, the first node has
+-- priority: its latest start is earlier, or the latest starts are equal and its index is lower. The latest starts are
+-- those with which all nodes can finish by some time if each waits only for its parents. The earlier the latest start
+-- of a node, the longer is the longest path from it.
 pub record IsMostUrgentFirst {N E : Type 0} (g : Graph N E) (durations starts : List ℕ) : Type 0 where
   pub time : ℕ
   pub latest : ℕ → ℕ
@@ -40,22 +42,22 @@ pub record IsMostUrgentFirst {N E : Type 0} (g : Graph N E) (durations starts : 
       × (slice_index starts u + slice_index durations u ≤ slice_index starts n))
       → Precedes nat_cmp (latest n, n) (latest m, m)
 
--- Graham's bound: as many times the makespan as there are workers is at most all durations together, and one time less
--- the durations along the longest path.
+-- Graham's bound: the makespan times the number of workers is at most the sum of all durations, plus the durations
+-- along the longest path times one less than the number of workers.
 pub record IsWithinBound {N E : Type 0} (g : Graph N E) (durations : List ℕ) (count makespan : ℕ) : Type 0 where
   pub path : List ℕ
   pub longest : ℕ
   pub critical : IsCritical g durations path longest
   pub bound : (order : List ℕ) → IsOrderOf g order → count * makespan ≤ span durations order + (count - 1) * longest
 
--- no way to do the nodes on as many workers is faster than that by more than a factor of 2 - 1 / count
+-- no schedule on as many workers is faster than that by more than a factor of 2 - 1 / count
 abbrev pub IsNearBest : {N E : Type 0} → Graph N E → (durations : List ℕ) (count makespan : ℕ) → Type 0
 IsNearBest g durations count makespan =
     (starts workers : List ℕ) (time : ℕ) → IsAssignment g durations starts workers count time
     → count * makespan ≤ (2 * count - 1) * time
 
--- Graham's bound is 2 ^ 64 or more: as many times 2 ^ 64 as there are workers is at most all durations together, and one
--- time less the durations along some path.
+-- Graham's bound is 2 ^ 64 or more: 2 ^ 64 times the number of workers is at most the sum of all durations, plus the
+-- durations along some path times one less than the number of workers.
 pub record HasLongBound {N E : Type 0} (g : Graph N E) (durations : List ℕ) (count : ℕ) : Type 0 where
   pub path : List ℕ
   pub joined : IsPath g path

@@ -1,4 +1,4 @@
--- Nodes that are worked off by keys, the greatest first.
+-- Work on nodes by keys, the greatest first.
 use Rattle.std.specs.Prelude.{◌≡◌, ℕ, ◌<◌, ◌≤◌, ◌⊎◌, Bool, List, ◌∷◌, ◌++◌, length, true, All, IsPermutation}
 use Rattle.std.specs.declared.cmp.Ordering.{Ordering}
 use Rattle.std.specs.declared.cmp.Ordering.TheVariants.{Greater, Equal}
@@ -6,8 +6,8 @@ use Rattle.daggy_base.specs.Graph.{Graph, HasNode}
 use Rattle.daggy_schedule.specs.Work.{Work, IsSet, IsUnderWay, is_among}
 use Rattle.daggy_schedule.specs.LeastFirst.{nodes_of}
 
--- Nodes that are worked off, with the keys of those that were not handed out: of the nodes that can begin, and of those
--- that can only begin later.
+-- Work on nodes, with the keys of the nodes that were not returned yet: of the nodes that are ready, and of the nodes
+-- that are not ready yet.
 pub record KeyedWork (K : Type 0) : Type 0 where
   pub waiting : List ℕ
   pub ready : List (K × ℕ)
@@ -35,7 +35,7 @@ module _ {K : Type 0} where
     pub taken : IsPermutation old ((key, n) ∷ new)
     pub ahead : All (IsAhead cmp (key, n)) new
 
-  -- the work on the graph is under way, each node has a flag, and each that was not handed out has a key
+  -- the work on the graph is under way, each node has a flag, and each node that was not returned has a key
   pub record IsUnderWayByKey {N E : Type 0} (g : Graph N E) (work : KeyedWork K) : Type 0 where
     pub under_way : IsUnderWay g (work_of work)
     pub flagged : (n : ℕ) → HasNode g n → n < length work.out

@@ -16,8 +16,8 @@ module _ {K : Type 0} where
   keys_from i (None ∷ keys) = keys_from (i + 1) keys
   keys_from i (Some key ∷ keys) = (key, i) ∷ keys_from (i + 1) keys
 
-  -- What the inner queue handed out was handed out by this queue too, or is a candidate, but not both. The inner queue
-  -- has no node left that is ready, and there is memory for all keys that are yet to come.
+  -- Each node that the inner queue returned was returned by this queue too, or is a candidate, but not both. The inner
+  -- queue has no node left that is ready, and there is memory for all keys that are yet to come.
   pub record IsKeptByKey (inner : Work) (later : List (Option K)) (candidates : List (Reverse K × ℕ)) (capacity : ℕ)
       (out : List Bool) : Type 0 where
     pub none_ready : inner.ready ≡ []

@@ -1,4 +1,4 @@
--- Orders by keys: of the nodes whose parents have come, the one with the least key comes next.
+-- Orders by keys: of the nodes whose parents are in the list already, the one with the least key comes next.
 use Rattle.std.specs.Prelude.{◌≡◌, ℕ, ◌≤◌, ◌⊎◌, Some, List, ◌∷◌, ◌++◌, map, All, Contains}
 use Rattle.std.specs.Borrow.{Bor}
 use Rattle.std.specs.declared.cmp.Ordering.{Ordering}

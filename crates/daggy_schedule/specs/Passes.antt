@@ -1,15 +1,16 @@
--- What the passes over the nodes hand on, first in the order and then against it.
+-- What the passes over the nodes compute, first along the order and then against it.
 use Rattle.std.specs.Prelude.{◌≡◌, ℕ, ◌+◌, ◌<◌, ◌≤◌, ◌⊎◌, List, slice_index}
 use Rattle.daggy_base.specs.Graph.{Graph, HasNode}
 use Rattle.daggy_base.specs.Path.{AreJoined}
 use Rattle.daggy_schedule.specs.Times.{IsLowestLast}
 
--- whether n, which finishes at that time, goes before m: it finishes later, or at the same time and has the lower index
+-- whether n, which finishes at that time, is preferred to m: it finishes later, or at the same time and has the lower
+-- index
 abbrev pub GoesBefore : (finish n time m : ℕ) → Type 0
 GoesBefore finish n time m = (time < finish) ⊎ ((time ≡ finish) × (n < m))
 
--- The children of n start no earlier than it finishes. Those that noted a node before which n goes start when n finishes,
--- and note n.
+-- The children of n start no earlier than n finishes. The children that recorded a node to which n is preferred start
+-- when n finishes, and record n.
 pub record AreDelayed {N E : Type 0} (g : Graph N E) (n finish : ℕ) (starts parents starts' parents' : List ℕ) : Type 0 where
   pub late : (v : ℕ) → AreJoined g n v → ¬ GoesBefore finish n (slice_index starts' v) (slice_index parents' v)
   pub up : (v : ℕ) → slice_index starts v ≤ slice_index starts' v
@@ -18,8 +19,8 @@ pub record AreDelayed {N E : Type 0} (g : Graph N E) (n finish : ℕ) (starts pa
       ⊎ (AreJoined g n v × GoesBefore finish n (slice_index starts v) (slice_index parents v)
       × (slice_index starts' v ≡ finish) × (slice_index parents' v ≡ n))
 
--- Each node takes its duration. It has no parents, starts at 0 and notes `end`, or it notes the lowest of the parents that
--- finish last and starts when that finishes.
+-- Each node takes its duration. A node without parents starts at 0 and records `end`; any other node records the parent
+-- that finishes last, the lowest of several, and starts when that parent finishes.
 pub record AreNoted {N E : Type 0} (end : ℕ) (g : Graph N E) (durations starts parents finishes : List ℕ) : Type 0 where
   pub takes : (n : ℕ) → HasNode g n → slice_index starts n + slice_index durations n ≡ slice_index finishes n
   pub noted : (n : ℕ) → HasNode g n → ((slice_index parents n ≡ end) × (slice_index starts n ≡ 0) × ((u : ℕ) → ¬ AreJoined g u n))

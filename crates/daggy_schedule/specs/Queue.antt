@@ -14,8 +14,8 @@ count_of p (x ∷ xs) = (if p x then 1 else 0) + count_of p xs
 abbrev pub waits_for_none : List ℕ → ℕ → Bool
 waits_for_none waiting n = slice_index_or waiting n 0 == 0
 
--- Each node waits for its edges that still count: those whose parent is not done, and those of a list, which are yet to
--- be counted off. Queued are the nodes that wait for none, each once.
+-- Each node waits for its edges that still count: the edges whose parent is not done, and the edges of a list, which
+-- are yet to be counted down. The queue has the nodes that wait for no edge, each once.
 pub record IsCounted {N E : Type 0} (g : Graph N E) (done : List Bool) (rest waiting queue : List ℕ) : Type 0 where
   pub still : ℕ → Bool
   pub settled : (e : ℕ) (x : Edge E) → edge_at g e ≡ Some x → IsSet done x.parent → ¬ Contains rest e → still e ≡ false
@@ -25,8 +25,8 @@ pub record IsCounted {N E : Type 0} (g : Graph N E) (done : List Bool) (rest wai
   pub queued : (n : ℕ) → Contains queue n ↔ (HasNode g n × (slice_index_or waiting n 0 ≡ 0))
   pub once : AreDistinct queue
 
--- The lists of a ready queue, whatever the graph. Up to `tail` the queue has the nodes that became ready, in turn, and up
--- to `head` those that were handed out, of which `finished` are done.
+-- The lists of a ready queue, whatever the graph. Up to `tail` the queue has the nodes that became ready, in order, and
+-- up to `head` those that were returned, of which `finished` are done.
 pub record IsKept (waiting queue : List ℕ) (head tail : ℕ) (out done : List Bool) (finished : ℕ) : Type 0 where
   pub queue_long : length queue ≡ length waiting
   pub out_long : length out ≡ length waiting

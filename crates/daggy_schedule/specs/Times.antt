@@ -54,13 +54,13 @@ pub record AreLatest {N E : Type 0} (g : Graph N E) (durations : List ℕ) (star
   pub greatest : (other : ℕ → ℕ) → AreFeasible g durations other → AreDoneBy g durations other time
       → (n : ℕ) → HasNode g n → other n ≤ start n
 
--- with these starts all have finished by then, and with no feasible starts earlier
+-- with these starts all have finished by then, and with no feasible starts do all finish earlier
 pub record IsMakespan {N E : Type 0} (g : Graph N E) (durations : List ℕ) (start : ℕ → ℕ) (time : ℕ) : Type 0 where
   pub met : AreDoneBy g durations start time
   pub least : (other : ℕ → ℕ) (earlier : ℕ) → AreFeasible g durations other → AreDoneBy g durations other earlier
       → time ≤ earlier
 
--- of the nodes of which this holds, the lowest of those that finish last
+-- of the nodes for which this holds, the lowest of those that finish last
 pub record IsLowestLast (holds : ℕ → Type 0) (finish : ℕ → ℕ) (n : ℕ) : Type 0 where
   pub here : holds n
   pub last : (m : ℕ) → holds m → finish m ≤ finish n

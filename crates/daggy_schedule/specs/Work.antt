@@ -1,4 +1,4 @@
--- Nodes that are worked off, each after its parents.
+-- Work on the nodes of a graph, each node after its parents.
 use Rattle.std.specs.Prelude.{◌≡◌, ℕ, ◌==◌, ◌||◌, ◌&&◌, ◌↔◌, Bool, true, false, not, Option, Some, None, List, [], ◌∷◌}
 use Rattle.std.specs.Prelude.{map, length, filter, count_by, slice_get, slice_index_or, Contains, if◌then◌else◌}
 use Rattle.daggy_base.specs.Graph.{Graph, Edge, HasNode, edge_at, in_list, out_list}
@@ -31,8 +31,8 @@ abbrev pub are_distinct : List ℕ → Bool
 are_distinct [] = true
 are_distinct (x ∷ xs) = not (is_among xs x) && are_distinct xs
 
--- Nodes that are worked off: how many edges from parents that are not done lead to each node; the nodes that can begin,
--- the one to be handed out next first; and by index whether a node was handed out, and whether it is done.
+-- The state of the work: for each node, how many edges lead to it from parents that are not done; the nodes that are
+-- ready, the next one first; and by index whether a node was returned, and whether it is done.
 pub record Work : Type 0 where
   pub waiting : List ℕ
   pub ready : List ℕ
@@ -47,11 +47,11 @@ is_set flags n = slice_index_or flags n false
 abbrev pub IsSet : List Bool → ℕ → Type 0
 IsSet flags n = is_set flags n ≡ true
 
--- the node was handed out, and is not done
+-- the node is in progress: it was returned, and is not done
 abbrev pub IsOut : Work → ℕ → Type 0
 IsOut work n = IsSet work.out n × ¬ IsSet work.done n
 
--- nothing can begin, and nothing is out
+-- no node is ready, and none is in progress
 abbrev pub IsIdle : Work → Type 0
 IsIdle work = (work.ready ≡ []) × ((n : ℕ) → ¬ IsOut work n)
 
@@ -63,9 +63,9 @@ AreAllDone g work = (n : ℕ) → HasNode g n → IsSet work.done n
 abbrev pub MayBegin : {N E : Type 0} → Graph N E → List Bool → ℕ → Type 0
 MayBegin g done n = HasNode g n × ((u : ℕ) → Contains (parents_of g n) u → IsSet done u)
 
--- The nodes of the graph are worked off. Each node waits for the edges from parents that are not done. Ready, each once,
--- are exactly the nodes whose parents are all done and that were not handed out. Only such nodes were handed out, and only
--- nodes that were handed out are done. The work is idle exactly if all nodes are done.
+-- The work on the graph is under way. Each node waits for the edges from parents that are not done. The ready nodes,
+-- each once, are exactly the nodes whose parents are all done and that were not returned. Only such nodes were
+-- returned, and only nodes that were returned are done. The work is idle if and only if all nodes are done.
 pub record IsUnderWay {N E : Type 0} (g : Graph N E) (work : Work) : Type 0 where
   pub waits : (n : ℕ) → HasNode g n
       → slice_get work.waiting n ≡ Some (count_by (λ u. not (is_set work.done u)) (parents_of g n))

@@ -1,11 +1,11 @@
--- Workers that do nodes: what waits and what is being done, with keys, and which workers are free.
+-- Workers that process nodes: which nodes wait and which are in progress, with keys, and which workers are free.
 use Rattle.std.specs.Prelude.{◌≡◌, ℕ, ◌+◌, ◌<◌, ◌≤◌, ◌^◌, ◌⊎◌, List, [], ◌∷◌, ◌++◌, length, Contains, slice_index, slice_set, IsPermutation}
 use Rattle.std.specs.List.{AllByRecursion}
 use Rattle.std.specs.Ordering.{nat_cmp}
 use Rattle.daggy_schedule.specs.LeastFirst.{Precedes, nodes_of}
 
--- Which nodes wait, with their latest starts; which are being done, with their finishes; who is free; when each node that
--- was begun started, and by whom it is done; and what time it is.
+-- Which nodes wait, with their latest starts; which are in progress, with their finishes; which workers are free; when
+-- each node that was started started, and which worker processes it; and the current time.
 pub record Progress : Type 0 where
   pub waiting : List (ℕ × ℕ)
   pub running : List (ℕ × ℕ)
@@ -28,7 +28,7 @@ abbrev pub IsIdleWorker : (busy : ℕ) (free left : List ℕ) → ℕ → Type 0
 IsIdleWorker busy free left worker =
     IsPermutation free (worker ∷ left) ⊎ ((free ≡ []) × (left ≡ []) × (worker ≡ busy))
 
--- a node that waits is taken by a worker that does nothing, when all that finishes by now has finished
+-- a waiting node is taken by a free worker, once every node that finishes by now has finished
 pub record Begins (durations : List ℕ) (count : ℕ) (old new : Progress) : Type 0 where
   pub key : ℕ
   pub node : ℕ
@@ -45,7 +45,7 @@ pub record Begins (durations : List ℕ) (count : ℕ) (old new : Progress) : Ty
   pub workers : new.workers ≡ slice_set old.workers node worker
   pub now : new.now ≡ old.now
 
--- the node that finishes next does so, and its worker is free
+-- the node that finishes next finishes, and its worker is free
 pub record Finishes (n : ℕ) (old new : Progress) : Type 0 where
   pub taken : IsPermutation old.running ((new.now, n) ∷ new.running)
   pub first : AllByRecursion (λ p. new.now ≤ p.0) new.running
@@ -54,12 +54,12 @@ pub record Finishes (n : ℕ) (old new : Progress) : Type 0 where
   pub starts : new.starts ≡ old.starts
   pub workers : new.workers ≡ old.workers
 
--- no node can begin: none waits, all workers are busy, or a node has to be finished first
+-- no node can start: none waits, all workers are busy, or a node has to finish first
 abbrev pub IsStuck : (count : ℕ) → Progress → Type 0
 IsStuck count progress =
     (progress.waiting ≡ []) ⊎ ((count ≤ length progress.running) ⊎ ((n : ℕ) × Contains progress.running (progress.now, n)))
 
--- a node that waits would finish at 2 ^ 64 or later
+-- a waiting node would finish at 2 ^ 64 or later
 abbrev pub IsTooLate : (durations : List ℕ) → Progress → Type 0
 IsTooLate durations progress =
     (n : ℕ) × Contains (nodes_of progress.waiting) n × (2 ^ 64 ≤ progress.now + slice_index durations n)

@@ -1,4 +1,4 @@
-//! Nodes that wait with their keys until they are taken.
+//! Nodes that wait, with their keys, until they are taken.
 ghost use Rattle.std.specs.Prelude.{◌≡◌, ◌<◌, ◌≤◌, ◌∷◌, [], ℕ, length, IsNone, IfSome, IfOk, OnOk};
 ghost use Rattle.std.specs.Prelude.{Contains, IsPermutation};
 ghost use Rattle.std.specs.List.{AllByRecursion};
@@ -10,8 +10,7 @@ use std::cmp::Reverse;
 use std::collections::BinaryHeap;
 use std::marker::Model;
 
-// Nodes with their keys. The node with the least key is taken first, of equal keys the one with the
-// smallest index.
+// Nodes with their keys. The node with the least key is taken first; ties go to the smallest index.
 #[derive(Drop)]
 pub(crate) struct Candidates<K: Ord, Ix: IndexType> {
     heap: BinaryHeap<Reverse<(K, NodeIndex<Ix>)>>,

@@ -1,4 +1,5 @@
-//! Working off the nodes of a dag, each after its parents: which can begin, and how early.
+//! Scheduling the nodes of a dag, each after its parents: which are ready, and how early each can
+//! start.
 #![tactic(auto)]
 
 mod candidates;

@@ -1,4 +1,4 @@
-//! Schedules on workers, each of which does one node at a time.
+//! Schedules for workers that each process one node at a time.
 ghost use Rattle.std.specs.Prelude.{◌≡◌, ◌<◌, ℕ, List, map, Err, IfOk, vec_len, length, slice_index};
 ghost use Rattle.std.specs.Int.NonZero.{non_zero_usize_get};
 ghost use Rattle.daggy_base.specs.Graph.{node_bound};
@@ -21,25 +21,37 @@ mod workers;
 
 use workers::Workers;
 
-/// Which worker does each node, and when. The lists are indexed by node, with 0 at indices without
-/// a node.
+/// Which worker processes each node, and when. The lists are indexed by node, with 0 at indices
+/// without a node.
+///
+/// # Examples
+///
+/// ```
+/// let mut dag: Dag<u64, ()> = Dag::new(rt.alloc());
+/// let dig = dag.add_node(2)?;
+/// let one = NonZeroUsize::MIN;
+/// let plan = schedule_on(rt.alloc(), &dag, |_, hours| *hours, one)?;
+/// assert!(rt; plan.starts.get(dig.index()) == Some(&0));
+/// assert!(rt; plan.workers.get(dig.index()) == Some(&0));
+/// assert!(rt; plan.makespan == 2);
+/// ```
 #[derive(Debug, Drop, Eq, PartialEq)]
 pub struct Assignment {
     /// The duration of each node.
     pub durations: Vec<u64>,
     /// When each node starts: all of its parents have finished, and its worker is free.
     pub starts: Vec<u64>,
-    /// The worker that does each node. The first has number 0.
+    /// The worker that processes each node. The first worker has number 0.
     pub workers: Vec<usize>,
     /// The length of the schedule: the greatest finish, or 0 if there are no nodes.
     pub makespan: u64,
 }
 
-/// Assigns the nodes of a dag to workers, each of which does one node at a time. This is list
+/// Assigns the nodes of a dag to workers, each of which processes one node at a time. This is list
 /// scheduling (Graham 1969), longest remaining path first: a free worker takes the ready node from
-/// which the longest path leads, and ties go to the smallest index. Which worker takes it, if
-/// several are free, is unspecified. `durations` is called once with each node; the unit is up to
-/// the caller.
+/// which the longest path leads, and ties go to the smallest index. If several workers are free, it
+/// is unspecified which of them takes the node. `durations` is called once with each node; the unit
+/// is up to the caller.
 ///
 /// The makespan is at most 2 - 1/workers times the least that is possible on as many workers
 /// (Graham's bound).
@@ -109,8 +121,8 @@ where
     Ok(done.into_assignment(plan.durations))
 }
 
-// Lets the workers do all nodes. Of the nodes that are ready, the one that has to start first for the
-// makespan of the plan is begun first.
+// Simulates the workers until all nodes are done. Of the ready nodes, the one with the earliest
+// latest start is started first.
 fn work_off<N: Drop, E: Drop, Ix: IndexType, S>(
     alloc: Global,
     dag: &Acyclic<N, E, Ix, S>,

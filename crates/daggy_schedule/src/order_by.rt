@@ -11,8 +11,8 @@ use daggy_base::read_store::ReadStore;
 use daggy_dag::acyclic::Acyclic;
 use std::alloc::{AllocError, Global};
 
-/// The nodes of a dag, each after its parents: of the nodes whose parents have all come, the one
-/// with the least key comes next. Ties go to the smallest index.
+/// The nodes of a dag in topological order: of the nodes whose parents are all in the list already,
+/// the one with the least key comes next. Ties go to the smallest index.
 ///
 /// So the order depends only on the nodes, the adjacent pairs and the keys, and not on how the dag
 /// was built. `key` is called once with each node. This is Kahn's algorithm (1962), with a heap of

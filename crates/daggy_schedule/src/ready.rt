@@ -1,4 +1,4 @@
-//! Which nodes of a dag can begin, while others are being done.
+//! The nodes of a dag that are ready, while others are in progress.
 ghost use Rattle.std.specs.Prelude.{◌≡◌, ℕ, ◌+◌, ◌<◌, ◌≤◌, ◌↔◌, ◌⊎◌, ◌∷◌, ◌++◌, []};
 ghost use Rattle.std.specs.Prelude.{IsTrue, IsNone, IfSome, IfOk, take, length, filter, slice_index_or};
 ghost use Rattle.daggy_base.specs.Graph.{HasNode, in_list, out_list, node_bound};
@@ -52,7 +52,7 @@ use std::marker::Model;
 pub struct Ready<Ix: IndexType = DefaultIx> {
     // By node index, the number of edges from parents that are not done.
     waiting: Vec<usize>,
-    // The nodes that became ready, in turn. Those before `head` were handed out.
+    // The nodes that became ready, in order. Those before `head` were returned.
     queue: Vec<Link<Ix>>,
     head: usize,
     tail: usize,
@@ -81,7 +81,8 @@ impl<Ix: IndexType> Model for Ready<Ix> {
 }
 
 impl<Ix: IndexType> Ready<Ix> {
-    /// Starts the work on a dag: the nodes without parents are ready, in ascending index order.
+    /// A queue of the nodes of a dag. At first the nodes without parents are ready, in ascending
+    /// index order.
     ///
     /// # Errors
     ///
@@ -133,7 +134,7 @@ impl<Ix: IndexType> Ready<Ix> {
         })
     }
 
-    /// Returns the node that has been ready for longest, or `None` if none is ready: then a node
+    /// Returns the node that has been ready for longest, or `None` if none is ready: either a node
     /// that was returned has to be done first, or all nodes are done.
     ///
     /// `dag` must be the dag that was passed to [`new`](Ready::new). It is read only to prefetch
@@ -177,7 +178,21 @@ impl<Ix: IndexType> Ready<Ix> {
         Some(n)
     }
 
-    /// Whether [`next`](Ready::next) returned the node and it is not done yet.
+    /// Whether the node is in progress: [`next`](Ready::next) returned it, and it is not done yet.
+    ///
+    /// # Examples
+    ///
+    /// ```
+    /// let mut dag: Dag<&'static str, u32> = Dag::new(rt.alloc());
+    /// let sow = dag.add_node("sow")?;
+    /// let mut ready = Ready::new(rt.alloc(), &dag)?;
+    /// assert!(rt; !ready.is_out(sow));
+    /// assert!(rt; ready.next(&dag) == Some(sow));
+    /// if ready.is_out(sow) {
+    ///     ready.done(&dag, sow);
+    /// }
+    /// assert!(rt; !ready.is_out(sow));
+    /// ```
     pub fn is_out(&self, n: NodeIndex<Ix>) -> bool
         ensures { IsTrue result ↔ IsOut self.now (Ix.number n) }
     {
@@ -186,8 +201,8 @@ impl<Ix: IndexType> Ready<Ix> {
     }
 
     /// Marks `n` as done. Children whose parents are now all done become ready, after the nodes
-    /// that are ready already and in the order of the edges that leave `n`. A child to which
-    /// several of these edges lead comes at the last of them.
+    /// that are ready already and in the order of the edges that leave `n`. If several of these
+    /// edges enter a child, it becomes ready at the last of them.
     ///
     /// # Requires
     ///
@@ -226,7 +241,7 @@ impl<Ix: IndexType> Ready<Ix> {
         );
     }
 
-    /// Whether all nodes are done: none is ready, and none that was returned is left to be done.
+    /// Whether all nodes are done: none is ready, and none is in progress.
     pub fn is_finished(&self) -> bool
         ensures { IsTrue result ↔ IsIdle self.now }
     {
@@ -261,9 +276,8 @@ fn count_parents<Ix: IndexType, S: ReadStore<Ix>>(
     Ok(counts)
 }
 
-// Reads the first edges of the nodes that come next, the more of a node the sooner it comes: a
-// prefetch. The answer is always true. Out of line, so that small graphs need not save registers for
-// it.
+// Prefetches the first edges of the next nodes, more of them the sooner a node comes. Always
+// returns true. Out of line, so that small graphs need not save registers for it.
 #[cold]
 #[inline(never)]
 fn touch_lists<Ix: IndexType, S: ReadStore<Ix>>(store: &S, queue: &[Link<Ix>]) -> bool
@@ -277,8 +291,8 @@ fn touch_lists<Ix: IndexType, S: ReadStore<Ix>>(store: &S, queue: &[Link<Ix>]) -
     true
 }
 
-// Counts off the edges that leave a node that is done, and queues the children that wait for none
-// then.
+// Counts down, for each child of a node that is done, the edges it waits for, and queues the
+// children that wait for none any more.
 fn release<Ix: IndexType, S: ReadStore<Ix>>(
     store: &S,
     n: NodeIndex<Ix>,
@@ -315,7 +329,7 @@ fn release<Ix: IndexType, S: ReadStore<Ix>>(
             let i = child.index();
             let count = waiting[i] - 1;
             waiting[i] = count;
-            // Written in any case: a branch around it would often be predicted wrong.
+            // Written in any case: a branch around it would often be mispredicted.
             queue[at] = Link::of_node(child);
             if count == 0 {
                 at += 1;

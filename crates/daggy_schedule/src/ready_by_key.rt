@@ -1,4 +1,4 @@
-//! Which nodes of a dag can begin, by keys: the one with the greatest key first.
+//! The nodes of a dag that are ready, by keys: the node with the greatest key first.
 ghost use Rattle.std.specs.Prelude.{◌≡◌, ℕ, ◌+◌, ◌<◌, ◌≤◌, ◌↔◌, ◌⊎◌, ◌++◌, [], None};
 ghost use Rattle.std.specs.Prelude.{IsTrue, IsNone, IfSome, IfOk, All, Contains, IsPermutation};
 ghost use Rattle.std.specs.Prelude.{length, filter, slice_set, vec_len};
@@ -57,13 +57,13 @@ use std::marker::Model;
 /// ```
 #[derive(Drop)]
 pub struct ReadyByKey<K: Ord, Ix: IndexType = DefaultIx> {
-    // It hands out each node as soon as that is ready.
+    // It returns each node as soon as the node is ready.
     inner: Ready<Ix>,
     // By node index, the keys of the nodes that were not ready yet.
     later: Vec<Option<K>>,
-    // What `inner` handed out, until it is handed out here.
+    // The nodes that `inner` returned, until they are returned here.
     candidates: Candidates<Reverse<K>, Ix>,
-    // By node index, whether a node was handed out here.
+    // By node index, whether a node was returned here.
     out: Vec<bool>,
 }
 
@@ -130,10 +130,10 @@ impl<K: Ord + Drop, Ix: IndexType> ReadyByKey<K, Ix> {
         })
     }
 
-    /// Returns the ready node with the greatest key, or `None` if none is ready: then a node that
+    /// Returns the ready node with the greatest key, or `None` if none is ready: either a node that
     /// was returned has to be done first, or all nodes are done. Ties go to the smallest index.
     ///
-    /// `dag` must be the dag that was passed to [`new`](ReadyByKey::new). It is not read: the
+    /// `dag` must be the dag that was passed to [`new`](ReadyByKey::new). It is not read; only the
     /// contract needs it.
     ///
     /// # Requires
@@ -166,7 +166,19 @@ impl<K: Ord + Drop, Ix: IndexType> ReadyByKey<K, Ix> {
         Some(n)
     }
 
-    /// Whether [`next`](ReadyByKey::next) returned the node and it is not done yet.
+    /// Whether the node is in progress: [`next`](ReadyByKey::next) returned it, and it is not done
+    /// yet.
+    ///
+    /// # Examples
+    ///
+    /// ```
+    /// let mut dag: Dag<&'static str, ()> = Dag::new(rt.alloc());
+    /// let sow = dag.add_node("sow")?;
+    /// let mut ready = ReadyByKey::new(rt.alloc(), &dag, |_, name| name.len())?;
+    /// assert!(rt; !ready.is_out(sow));
+    /// assert!(rt; ready.next(&dag) == Some(sow));
+    /// assert!(rt; ready.is_out(sow));
+    /// ```
     pub fn is_out(&self, n: NodeIndex<Ix>) -> bool
         ensures { IsTrue result ↔ IsOut (work_of self.now) (Ix.number n) }
     {
@@ -204,7 +216,7 @@ impl<K: Ord + Drop, Ix: IndexType> ReadyByKey<K, Ix> {
         gather(dag, &mut self.inner, &mut self.later, &mut self.candidates);
     }
 
-    /// Whether all nodes are done: none is ready, and none that was returned is left to be done.
+    /// Whether all nodes are done: none is ready, and none is in progress.
     pub fn is_finished(&self) -> bool
         ensures { IsTrue result ↔ IsIdle (work_of self.now) }
     {

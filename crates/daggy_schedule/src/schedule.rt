@@ -1,4 +1,4 @@
-//! How early and how late the nodes of a dag can start, with a duration for each.
+//! How early and how late the nodes of a dag can start, given the duration of each.
 ghost use Rattle.std.specs.Prelude.{◌≡◌, ℕ, ◌+◌, List, map, Err, IfOk, vec_len, slice_index};
 ghost use Rattle.daggy_base.specs.Graph.{HasNode, node_bound};
 ghost use Rattle.daggy_schedule.specs.Times.{CanCallAtEachNode, AreDurations, IsZeroElsewhere};
@@ -21,6 +21,17 @@ use late::{nodes_in_order, slack_of};
 
 /// When each node of a dag starts and finishes. The lists are indexed by node, with 0 at indices
 /// without a node.
+///
+/// # Examples
+///
+/// ```
+/// let mut dag: Dag<u64, ()> = Dag::new(rt.alloc());
+/// let sow = dag.add_node(1)?;
+/// let (_, reap) = dag.add_child(sow, (), 2)?;
+/// let plan = Schedule::new(rt.alloc(), &dag, |_, days| *days)?;
+/// assert!(rt; plan.starts.get(reap.index()) == Some(&1));
+/// assert!(rt; plan.finishes.get(reap.index()) == Some(&3));
+/// ```
 #[derive(Debug, Drop, Eq, PartialEq)]
 pub struct Schedule<Ix: IndexType = DefaultIx> {
     /// The duration of each node.
@@ -29,11 +40,11 @@ pub struct Schedule<Ix: IndexType = DefaultIx> {
     pub starts: Vec<u64>,
     /// The earliest finish of each node.
     pub finishes: Vec<u64>,
-    /// The slack of each node: how much later it can start without a greater makespan.
+    /// The slack of each node: how much later it can start without increasing the makespan.
     pub slack: Vec<u64>,
-    /// A path whose durations sum up to the makespan. Empty only if there are no nodes. It ends
-    /// with the lowest-index node of those that finish last, and each node comes after the
-    /// lowest-index parent of those that finish last. So it depends only on the nodes, the adjacent
+    /// A critical path: a path whose durations sum up to the makespan. Empty only if there are no
+    /// nodes. It ends with the node that finishes last, and each node comes after its parent that
+    /// finishes last; ties go to the lowest index. So it depends only on the nodes, the adjacent
     /// pairs and the durations, and not on how the dag was built.
     pub critical: Vec<NodeIndex<Ix>>,
     /// The length of the schedule: the greatest finish, or 0 if there are no nodes.
@@ -41,9 +52,19 @@ pub struct Schedule<Ix: IndexType = DefaultIx> {
 }
 
 /// Why there is no schedule.
+///
+/// # Examples
+///
+/// ```
+/// let mut dag: Dag<u64, ()> = Dag::new(rt.alloc());
+/// let sow = dag.add_node(u64::MAX)?;
+/// dag.add_child(sow, (), 1)?;
+/// let result = Schedule::new(rt.alloc(), &dag, |_, days| *days);
+/// assert!(rt; result.err() == Some(ScheduleError::Overflow));
+/// ```
 #[derive(Clone, Copy, Debug, Eq, Error, PartialEq)]
 pub enum ScheduleError {
-    /// The durations along some path sum up to 2^64 or more, or the makespan on workers may be so
+    /// The durations along some path sum up to 2^64 or more, or the makespan on workers may be that
     /// long.
     #[error("the nodes take too long")]
     Overflow,
@@ -62,9 +83,9 @@ impl From<AllocError> for ScheduleError {
 
 impl<Ix: IndexType> Schedule<Ix> {
     /// When each node can start and finish if it waits only for its parents, how much later it can
-    /// start, and a critical path: the critical path method (Kelley and Walker 1959), by a pass
-    /// along the dag's order and one against it. `durations` is called once with each node; the
-    /// unit is up to the caller.
+    /// start, and a critical path: the critical path method (Kelley and Walker 1959), by one pass
+    /// along the dag's order and one pass against it. `durations` is called once with each node;
+    /// the unit is up to the caller.
     ///
     /// # Requires
     ///
@@ -72,8 +93,8 @@ impl<Ix: IndexType> Schedule<Ix> {
     ///
     /// # Errors
     ///
-    /// Returns `ScheduleError::Overflow` if the durations along some path sum up to 2^64 or more, and
-    /// `ScheduleError::Memory` if an allocation fails before that is seen.
+    /// Returns `ScheduleError::Overflow` if the durations along some path sum up to 2^64 or more,
+    /// and `ScheduleError::Memory` if an allocation fails before the overflow is detected.
     ///
     /// # Complexity
     ///

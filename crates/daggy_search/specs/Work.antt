@@ -2,8 +2,8 @@
 use Rattle.std.specs.Prelude.{◌≡◌, ℕ, ◌^◌, ◌<◌, ◌≤◌, ◌==◌, Bool, false, List, length, map, slice_index, slice_index_or}
 use Rattle.daggy_search.specs.declared.worklist.Entry.{Entry}
 
--- for how many nodes there is memory, whether each was entered and whether it was marked, and a list of nodes with a
--- cursor for each
+-- the number of nodes that there is memory for, whether each node was entered and whether it was marked, and a list of
+-- nodes with a cursor for each
 pub record Work : Type 0 where
   pub size : ℕ
   pub entered : List Bool

@@ -1,5 +1,5 @@
-//! The edges that leave nodes, side by side (CSR). They are read in sequence, where lists of edges
-//! lead all over the memory.
+//! The edges that leave nodes, in one array (CSR). They are read in sequence, while a walk along
+//! lists of edges jumps all over memory.
 ghost use Rattle.std.specs.Prelude.{◌≡◌, ◌+◌};
 
 use daggy_base::index::{EdgeIndex, IndexType};
@@ -7,8 +7,8 @@ use daggy_base::link::Link;
 use daggy_base::looks::Looks;
 use daggy_base::source::EdgeSource;
 
-/// An edge as a search by blocks reads it: the place of its child, and its index. Can be read only
-/// by [`look`](Arc::look).
+/// An edge as a search by blocks reads it: the position of its child, and its index. Can be read
+/// only by [`look`](Arc::look).
 #[derive(Clone, Copy, Drop)]
 pub struct Arc<Ix: IndexType> {
     place: Link<Ix>,
@@ -16,7 +16,7 @@ pub struct Arc<Ix: IndexType> {
 }
 
 impl<Ix: IndexType> Arc<Ix> {
-    /// An edge whose child has this place.
+    /// An edge whose child has this position.
     #[inline]
     pub fn new(place: Link<Ix>, edge: EdgeIndex<Ix>) -> Self
         ensures { result ≡ record { place = place; edge = edge } }
@@ -24,8 +24,8 @@ impl<Ix: IndexType> Arc<Ix> {
         Arc { place, edge }
     }
 
-    /// The place of the child and the index of the edge. Counts a look at the source that the edge
-    /// is of, as if the edge were read there.
+    /// The position of the child and the index of the edge. Counts an edge read of `source`, as if
+    /// the edge were read there.
     #[inline]
     pub fn look<S: EdgeSource<Ix>>(self, source: &mut S) -> (Link<Ix>, EdgeIndex<Ix>)
         ensures place { result.0 ≡ self.place }
@@ -40,7 +40,8 @@ impl<Ix: IndexType> Arc<Ix> {
     }
 }
 
-/// Where the arcs of a node stand in a list of arcs: from the position `begin` on, before `end`.
+/// Where the arcs of a node are in a list of arcs: from position `begin` up to, not including,
+/// `end`.
 #[derive(Clone, Copy, Drop)]
 pub struct Segment {
     pub begin: usize,

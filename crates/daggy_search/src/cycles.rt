@@ -53,10 +53,10 @@ pub fn is_acyclic<Ix: IndexType, S: EdgeSource<Ix>>(
 /// Sorts the nodes topologically, unless there is a cycle. They are left in the list of the worklist
 /// from `top` on, where `top` is the result.
 ///
-/// It is a depth-first search from each node in turn, over each edge at most once, and the order is
-/// the reverse postorder: a node precedes all that were finished earlier, its children among them.
-/// A finished node is marked, and an edge to a node that was entered but not finished closes a
-/// cycle.
+/// It is a depth-first search from each node in turn, which reads each edge at most once, and the
+/// order is the reverse postorder: a node precedes all nodes that were finished earlier, and so its
+/// children. A finished node is marked, and an edge to a node that was entered but not finished
+/// closes a cycle.
 #[doc(hidden)]
 pub fn sort_nodes<Ix: IndexType, S: EdgeSource<Ix>>(
     source: &mut S,

@@ -12,8 +12,24 @@ use daggy_base::read_store::ReadStore;
 use daggy_base::source::EdgeSource;
 use std::marker::{Model, PhantomData};
 
-/// A store that is borrowed to be read along its edges. Edge reads are counted here, so the store
-/// does not change.
+/// A view of a store for searches, which borrows it. Edge reads are counted here, so the store does
+/// not change.
+///
+/// # Examples
+///
+/// ```
+/// let mut graph: DiGraph<&'static str, ()> = DiGraph::new(rt.alloc());
+/// let sow = graph.add_node("sow")?;
+/// let reap = graph.add_node("reap")?;
+/// graph.add_edge(sow, reap, ())?;
+/// let mut scratch = Scratch::new(rt.alloc());
+/// scratch.reserve(graph.node_count(), 0)?;
+/// let mut source = Reading::new(&graph);
+/// assert!(rt; reaches(&mut source, sow, reap, &mut scratch));
+/// // For contracts: the graph counts these edge reads as its own.
+/// let looks = source.into_looks();
+/// graph.count_looks(&looks);
+/// ```
 #[derive(Drop)]
 pub struct Reading<'a, Ix: IndexType, S: ReadStore<Ix>> {
     store: &'a S,

@@ -13,8 +13,8 @@ use daggy_base::read_store::ReadStore;
 use daggy_base::source::EdgeSource;
 use std::marker::{Model, PhantomData};
 
-/// A store that is borrowed to be read against its edges, so that a search from a node finds what
-/// reaches it. Indices are those of the store.
+/// A view of a store with all edges reversed, so that a search from a node finds the nodes that
+/// reach it. It borrows the store. Nodes and edges have the same indices as in the store.
 ///
 /// # Examples
 ///
@@ -63,6 +63,20 @@ impl<'a, Ix: IndexType, S: ReadStore<Ix>> Reversed<'a, Ix, S> {
     }
 
     /// The number of edge reads.
+    ///
+    /// # Examples
+    ///
+    /// ```
+    /// let mut graph: DiGraph<&'static str, ()> = DiGraph::new(rt.alloc());
+    /// let sow = graph.add_node("sow")?;
+    /// let mut scratch = Scratch::new(rt.alloc());
+    /// scratch.reserve(graph.node_count(), 0)?;
+    /// let mut source = Reversed::new(&graph);
+    /// assert!(rt; reaches(&mut source, sow, sow, &mut scratch));
+    /// // For contracts: the graph counts these edge reads as its own.
+    /// let looks = source.into_looks();
+    /// graph.count_looks(&looks);
+    /// ```
     #[inline]
     pub fn into_looks(self) -> Looks
         ensures { result.count ≡ self.entry.looks }

@@ -9,12 +9,12 @@ use daggy_base::reserved::reserve;
 use std::alloc::{AllocError, Global};
 use std::marker::Model;
 
-/// The memory of searches: a worklist, a list for the edges that a search finds, and for a search by
-/// blocks of nodes a row of bits for each node and all edges side by side.
+/// The memory of searches: a worklist, a list for the edges that a search finds, and, for a search
+/// by blocks of nodes, a row of bits for each node and an array of all edges.
 ///
-/// A search does not allocate: it uses a scratch that was made large enough before. Memory for
-/// nodes is only reserved then, and initialised by the first search, so a graph that is never
-/// searched pays little for it.
+/// A search does not allocate: it uses a scratch that [`reserve`](Scratch::reserve) made large
+/// enough before. Memory for nodes is reserved there, but initialised by the first search, so a
+/// graph that is never searched pays little for it.
 ///
 /// # Examples
 ///
@@ -37,7 +37,7 @@ pub struct Scratch<Ix: IndexType> {
     /// A row for each node, for a search by blocks.
     #[doc(hidden)]
     pub rows: Vec<Row>,
-    /// Where the edges that leave each node stand among `arcs`: as many as `rows`, or more.
+    /// Where the edges that leave each node are in `arcs`: as many segments as `rows`, or more.
     #[doc(hidden)]
     pub segments: Vec<Segment>,
     /// The edges that leave nodes, for a search by blocks. There is memory for as many as `found` has.
@@ -92,12 +92,21 @@ impl<Ix: IndexType> Scratch<Ix> {
     }
 
     /// The allocator of its memory.
+    ///
+    /// # Examples
+    ///
+    /// ```
+    /// let scratch: Scratch<u32> = Scratch::new(rt.alloc());
+    /// let mut other: Scratch<u32> = Scratch::new(scratch.allocator());
+    /// other.reserve(8, 0)?;
+    /// assert!(rt; other.fits(8, 0) && !scratch.fits(8, 0));
+    /// ```
     #[inline]
     pub fn allocator(&self) -> Global {
         *self.found.allocator()
     }
 
-    /// Whether graphs of these bounds can be searched.
+    /// Whether graphs with these bounds can be searched.
     #[inline]
     pub fn fits(&self, node_bound: usize, edge_bound: usize) -> bool
         ensures { IsTrue result ↔ ((node_bound ≤ self.now.nodes) × (edge_bound ≤ self.now.edges)) }
@@ -105,13 +114,13 @@ impl<Ix: IndexType> Scratch<Ix> {
         node_bound <= self.work.len() && edge_bound <= self.found.len()
     }
 
-    /// Makes room for searches of each graph whose `node_bound` and `edge_bound`, one more than its
-    /// greatest indices, are at most these; [`fits`](Scratch::fits) tells whether there is room
-    /// already.
+    /// Makes room for searches of graphs with these bounds or smaller ones: `node_bound` is one
+    /// more than the greatest node index, and `edge_bound` one more than the greatest edge index.
+    /// [`fits`](Scratch::fits) returns whether there is room already.
     ///
     /// # Errors
     ///
-    /// Returns `AllocError` if an allocation fails. What it fitted before still fits.
+    /// Returns `AllocError` if an allocation fails. Graphs that it fitted before still fit.
     ///
     /// # Complexity
     ///
@@ -147,16 +156,30 @@ impl<Ix: IndexType> Scratch<Ix> {
         Ok(())
     }
 
-    /// Makes room for searches by blocks of nodes, as `redundant_edges_by_blocks` does them: a row
-    /// of 80 bytes for each node below the bound.
+    /// Makes room for searches by blocks of nodes, such as `redundant_edges_by_blocks`: 80 bytes
+    /// for each node below the bound.
     ///
     /// # Errors
     ///
-    /// Returns `AllocError` if an allocation fails. What it fitted before still fits.
+    /// Returns `AllocError` if an allocation fails. Graphs that it fitted before still fit.
     ///
     /// # Complexity
     ///
     /// O(`node_bound`), if there is not enough room yet.
+    ///
+    /// # Examples
+    ///
+    /// ```
+    /// let mut graph: DiGraph<&'static str, ()> = DiGraph::new(rt.alloc());
+    /// let sow = graph.add_node("sow")?;
+    /// let mut scratch = Scratch::new(rt.alloc());
+    /// scratch.reserve(graph.node_count(), graph.edge_count())?;
+    /// scratch.reserve_rows(graph.node_count())?;
+    /// if let Some(order) = Order::sorted(rt.alloc(), &mut graph, &mut scratch)? {
+    ///     let redundant = redundant_edges_by_blocks(&mut scratch, &mut graph, &order, &[sow]);
+    ///     assert!(rt; redundant.is_empty());
+    /// }
+    /// ```
     #[inline]
     pub fn reserve_rows(&mut self, node_bound: usize) -> Result<(), AllocError>
         ensures ok { OnOk result (node_bound ≤ self.new.rows) }

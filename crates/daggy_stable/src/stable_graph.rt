@@ -37,8 +37,8 @@ use daggy_cells::links::{self, find_to};
 use std::alloc::Global;
 use std::marker::Model;
 
-/// A directed graph whose indices stay valid when others are removed. Parallel edges and self-loops
-/// are allowed.
+/// A directed graph whose indices stay valid when other nodes and edges are removed. Parallel edges
+/// and self-loops are allowed.
 ///
 /// A removal leaves a vacant slot and changes no other index. Adding reuses the slot vacated last,
 /// and makes a new slot only if none is vacant. All operations are O(1) unless stated otherwise.
@@ -177,7 +177,7 @@ impl<N, E, Ix: IndexType> StableDiGraph<N, E, Ix> {
     ///
     /// # Complexity
     ///
-    /// O(edges out of `a`).
+    /// O(edges that leave `a`).
     pub fn find_edge(&self, a: NodeIndex<Ix>, b: NodeIndex<Ix>) -> Option<EdgeIndex<Ix>>
         ensures { option_map Ix.number result
             ≡ edge_between self.now.graph (Ix.number a) (Ix.number b) }
@@ -191,7 +191,7 @@ impl<N, E, Ix: IndexType> StableDiGraph<N, E, Ix> {
     ///
     /// # Complexity
     ///
-    /// O(edges out of `a`).
+    /// O(edges that leave `a`).
     pub fn contains_edge(&self, a: NodeIndex<Ix>, b: NodeIndex<Ix>) -> bool
         ensures { IsTrue result ↔ AreJoined self.now.graph (Ix.number a) (Ix.number b) }
     {

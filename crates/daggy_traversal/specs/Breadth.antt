@@ -6,8 +6,8 @@ use Rattle.daggy_base.specs.Graph.{Graph, node_bound}
 use Rattle.daggy_traversal.specs.Traversal.{IsAway, IsStep, neighbors_of, is_among, are_found, first_new}
 use Rattle.daggy_traversal.specs.Traversal.{begin}
 
--- A walk breadth first: the node that it starts from; its direction; the nodes that were given, in turn; those that were
--- met and not given, the next one first; and a bound of the indices that it has room for.
+-- A walk breadth first: the node that it starts from; its direction; the nodes that were yielded, in order; the nodes
+-- that were met and not yielded yet, the next one first; and a bound of the indices that it has room for.
 pub record Breadth : Type 0 where
   pub start : ℕ
   pub dir : Direction
@@ -15,8 +15,8 @@ pub record Breadth : Type 0 where
   pub waiting : List ℕ
   pub bound : ℕ
 
--- The node that comes next: the first that was not given among the start and the neighbors of the given nodes, the node
--- given first before the others.
+-- The node that comes next: the first node that was not yielded among the start and the neighbors of the yielded nodes,
+-- in the order in which those were yielded.
 abbrev pub next_in_breadth : {N E : Type 0} → Graph N E → Direction → (start : ℕ) (given : List ℕ) → Option ℕ
 next_in_breadth g dir start given = first_new given (begin g start ++ neighbors_of dir g given)
 
@@ -25,20 +25,20 @@ abbrev pub fresh : (old : List ℕ) → List ℕ → List ℕ
 fresh old [] = []
 fresh old (x ∷ xs) = if is_among old x then fresh old xs else x ∷ fresh (old ++ x ∷ []) xs
 
--- for each path from the start to n there is one to m with at most `more` edges more
+-- for each path from the start to n there is a path to m with at most `more` more edges
 abbrev pub IsWithin : {N E : Type 0} → Graph N E → Direction → (start more m n : ℕ) → Type 0
 IsWithin g dir start more m n =
     (edges : ℕ) → IsAway dir g start n edges → (fewer : ℕ) × IsAway dir g start m fewer × (fewer ≤ edges + more)
 
--- A walk over this graph. Given or waiting, each once, are the start and the neighbors of the nodes that were given, in
--- the order in which they are met.
+-- A walk over this graph. The nodes that were yielded or wait, each once, are the start and the neighbors of the nodes
+-- that were yielded, in the order in which they are met.
 pub record IsBreadthFirst {N E : Type 0} (g : Graph N E) (walk : Breadth) : Type 0 where
   pub met : walk.given ++ walk.waiting ≡ fresh [] (begin g walk.start ++ neighbors_of walk.dir g walk.given)
   pub found : are_found walk.dir g walk.start [] walk.given ≡ true
   pub room : node_bound g ≤ walk.bound
 
--- A step of a walk yields the next node, and no given node is farther from the start. Where it yields nothing, the walk
--- stays as it is.
+-- A step of a walk yields the next node, and no node yielded before is farther from the start. If it yields nothing,
+-- the walk is unchanged.
 pub record IsBreadthStep {N E : Type 0} (g : Graph N E) (walk : Breadth) (node : Option ℕ) (walk' : Breadth)
     : Type 0 where
   pub step : IsStep walk.dir g walk.start walk.given node walk'.given

@@ -7,9 +7,9 @@ use Rattle.daggy_base.specs.Path.{end_of, IsAcyclic}
 use Rattle.daggy_traversal.specs.Traversal.{LeadsTo, LeadsFar, neighbors, neighbors_left, without_old, first_new, is_among}
 use Rattle.daggy_traversal.specs.Traversal.{are_distinct, IsStep}
 
--- A walk in postorder: the node that it starts from; its direction; the nodes that were given, in turn; the path from the
--- start to the node that was met last; of each node on it, the edge to look at next; and a bound of the indices that it
--- has room for.
+-- A walk in postorder: the node that it starts from; its direction; the nodes that were yielded, in order; the path
+-- from the start to the node that was met last; for each node on that path, the edge to read next; and a bound of the
+-- indices that it has room for.
 pub record Postorder : Type 0 where
   pub start : ℕ
   pub dir : Direction
@@ -28,14 +28,15 @@ abbrev pub is_way : {N E : Type 0} → Direction → Graph N E → (start : ℕ)
 is_way dir g start [] = true
 is_way dir g start (u ∷ rest) = (u == start) && leads_along dir g u rest
 
--- a path goes on by more nodes, each the first neighbor of the one before that is neither given nor on the path
+-- a path is extended by more nodes, each the first neighbor of the node before it that is neither yielded nor on the
+-- path
 abbrev pub GoesDown : {N E : Type 0} → Direction → Graph N E → (given path more : List ℕ) → Type 0
 GoesDown dir g given path [] = Unit {0}
 GoesDown dir g given path (v ∷ more) =
     (first_new (given ++ path) (neighbors dir g (end_of 0 path)) ≡ Some v)
     × GoesDown dir g given (path ++ v ∷ []) more
 
--- Giving n: the path, which is not empty, goes down as far as it can, and n is its last node, which is given.
+-- Yielding n: the path, which is not empty, is extended as far as possible, and n is its last node, which is yielded.
 pub record GivesLast {N E : Type 0} (dir : Direction) (g : Graph N E) (given path path' : List ℕ) (n : ℕ)
     : Type 0 where
   pub some : path ≢ []
@@ -49,7 +50,8 @@ abbrev pub AreLeft : {N E : Type 0} → Direction → Graph N E → (met path cu
 AreLeft dir g met path cursors =
     map (λ n. without_old met (neighbors dir g n)) path ≡ map (λ e. without_old met (neighbors_left dir g e)) cursors
 
--- A walk over this graph. What was met is given or on the path, and the neighbors of what was given were met.
+-- A walk over this graph. Each node that was met is yielded or on the path, and the neighbors of the yielded nodes were
+-- met.
 pub record IsPostorder {N E : Type 0} (g : Graph N E) (walk : Postorder) : Type 0 where
   pub left : AreLeft walk.dir g (walk.given ++ walk.path) walk.path walk.cursors
   pub way : is_way walk.dir g walk.start walk.path ≡ true
@@ -61,8 +63,8 @@ pub record IsPostorder {N E : Type 0} (g : Graph N E) (walk : Postorder) : Type 
       → is_among (walk.given ++ walk.path) v ≡ true
   pub room : node_bound g ≤ walk.bound
 
--- A step of a walk goes down and yields a node. Each neighbor of that node was given or reaches it, so in an acyclic graph
--- each was given. Where the step yields nothing, the walk stays as it is.
+-- A step of a walk goes down and yields a node. Each neighbor of that node was yielded or reaches it, so in an acyclic
+-- graph each was yielded. If the step yields nothing, the walk is unchanged.
 pub record IsPostorderStep {N E : Type 0} (g : Graph N E) (walk : Postorder) (node : Option ℕ) (walk' : Postorder)
     : Type 0 where
   pub step : IsStep walk.dir g walk.start walk.given node walk'.given

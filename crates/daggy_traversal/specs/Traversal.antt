@@ -1,4 +1,4 @@
--- Walks over all nodes that one node reaches, in a direction of the edges.
+-- Walks over all nodes reachable from a node, in a direction of the edges.
 use Rattle.std.specs.Prelude.{◌≡◌, ℕ, zero, suc, ◌==◌, ◌≤◌, ◌||◌, ◌&&◌, ◌↔◌, Bool, true, false, not, Option, Some, None, List}
 use Rattle.std.specs.Prelude.{[], ◌∷◌, ◌++◌, length, IsNone, IfNone, IfSome}
 use Rattle.std.specs.Prelude.{map, filter, is_some, Contains, if◌then◌else◌}
@@ -25,7 +25,7 @@ abbrev pub IsAway : {N E : Type 0} → Direction → Graph N E → (u v edges : 
 IsAway dir g u v zero = HasNode g u × (u ≡ v)
 IsAway dir g u v (suc edges) = (w : ℕ) × IsAway dir g u w edges × LeadsTo dir g w v
 
--- of the ends of an edge, the one that it leads to in the direction
+-- the endpoint that an edge leads to in the direction
 abbrev pub far_of : Direction → (parent child : ℕ) → ℕ
 far_of Outgoing parent child = child
 far_of Incoming parent child = parent
@@ -81,18 +81,18 @@ abbrev pub neighbors_of : {N E : Type 0} → Direction → Graph N E → List �
 neighbors_of dir g [] = []
 neighbors_of dir g (n ∷ ns) = neighbors dir g n ++ neighbors_of dir g ns
 
--- whether each node of a list is the start, or a neighbor of a node before it or of the given ones
+-- whether each node of a list is the start, or a neighbor of a node before it or of a yielded node
 abbrev pub are_found : {N E : Type 0} → Direction → Graph N E → (start : ℕ) (given : List ℕ) → List ℕ → Bool
 are_found dir g start given [] = true
 are_found dir g start given (x ∷ xs) =
     is_among (begin g start ++ neighbors_of dir g given) x && are_found dir g start (given ++ x ∷ []) xs
 
--- all nodes that the start reaches were given
+-- all nodes that the start reaches were yielded
 abbrev pub AreAllGiven : {N E : Type 0} → Graph N E → Direction → (start : ℕ) (given : List ℕ) → Type 0
 AreAllGiven g dir start given = (n : ℕ) → LeadsFar dir g start n → Contains given n
 
--- A step of a walk from a start, after the given nodes. It yields a node that the start reaches and that was not given,
--- which is then the last given one, or nothing if and only if all were given.
+-- A step of a walk from a start, after the yielded nodes. It yields a node that the start reaches and that was not
+-- yielded before, which is then the last yielded node. It yields nothing if and only if all were yielded.
 pub record IsStep {N E : Type 0} (dir : Direction) (g : Graph N E) (start : ℕ) (given : List ℕ) (node : Option ℕ)
     (given' : List ℕ) : Type 0 where
   pub none : IsNone node ↔ AreAllGiven g dir start given
@@ -102,12 +102,12 @@ pub record IsStep {N E : Type 0} (dir : Direction) (g : Graph N E) (start : ℕ)
   pub kept : IfNone node (given' ≡ given)
   pub few : length given' ≤ node_bound g
 
--- the set has the nodes of the list, each of which is there once
+-- the set contains exactly the nodes of the list, each of which is in the list once
 pub record AreMarked (set : List Bool) (nodes : List ℕ) : Type 0 where
   pub exact : (n : ℕ) → IsVisited set n ↔ Contains nodes n
   pub once : AreDistinct nodes
 
--- v is at the far end of the edge e, after which the edge `next` is in the same list, or `end`
+-- v is the other end of the edge e, and `next` is the edge after e in the same list, or `end`
 pub record IsNeighbor {N E : Type 0} (dir : Direction) (end : ℕ) (g : Graph N E) (e v next : ℕ) : Type 0 where
   pub edge : Edge E
   pub at : edge_at g e ≡ Some edge

@@ -18,7 +18,8 @@ use std::alloc::{AllocError, Global};
 use std::fmt;
 use std::marker::Model;
 
-/// The nodes that a node reaches, breadth first: a node that fewer edges lead to comes earlier.
+/// The nodes reachable from a node, breadth first: a node at a smaller distance from the start
+/// comes earlier.
 ///
 /// It does not borrow the graph; each step borrows it for that step. Until the walk ends, no node
 /// and no edge may be added or removed. Weights may be written: what the next call requires still
@@ -55,7 +56,7 @@ use std::marker::Model;
 pub struct Bfs<Ix: IndexType = DefaultIx> {
     start: NodeIndex<Ix>,
     dir: Direction,
-    // The nodes that were met, in turn. Those before `head` were given.
+    // The nodes that were met, in order. Those before `head` were yielded.
     queue: Vec<Link<Ix>>,
     head: usize,
     met: NodeSet<Ix>,
@@ -118,10 +119,10 @@ impl<Ix: IndexType> Bfs<Ix> {
         })
     }
 
-    /// Returns the next node, or `None` if there are no more nodes that the start reaches.
+    /// Returns the next node, or `None` if no reachable node is left.
     ///
-    /// The start comes first. The neighbors of a node come in the order of its list, after those of
-    /// each node that came before it.
+    /// The start comes first. The neighbors of a node come in the order of its list, after the
+    /// neighbors of each node that came before it.
     ///
     /// # Requires
     ///

@@ -20,8 +20,8 @@ use std::alloc::{AllocError, Global};
 use std::fmt;
 use std::marker::Model;
 
-/// The nodes that a node reaches, depth first and in preorder: each node comes before those that
-/// are reached through it.
+/// The nodes reachable from a node, depth first and in preorder: each node comes before the nodes
+/// that are reached through it.
 ///
 /// It does not borrow the graph; each step borrows it for that step. Until the walk ends, no node
 /// and no edge may be added or removed. Weights may be written: what the next call requires still
@@ -62,9 +62,9 @@ pub struct Dfs<Ix: IndexType = DefaultIx> {
     dir: Direction,
     // Whether the start is still to come.
     waits: bool,
-    // Of each node on the way to the one given last, the edge to look at next, if there is one.
+    // For each node on the path to the node yielded last, the edge to read next, if there is one.
     cursors: Vec<Link<Ix>>,
-    // The nodes that were given.
+    // The nodes that were yielded.
     met: NodeSet<Ix>,
     given: Given,
 }
@@ -124,7 +124,7 @@ impl<Ix: IndexType> Dfs<Ix> {
         })
     }
 
-    /// Returns the next node, or `None` if there are no more nodes that the start reaches.
+    /// Returns the next node, or `None` if no reachable node is left.
     ///
     /// The start comes first. After that, the next node is the first new neighbor, in the order of
     /// the list, of the latest node that still has one.
@@ -219,9 +219,10 @@ fn push_cursor<Ix: IndexType, S: ReadStore<Ix>>(
     }
 }
 
-// As `push_cursor`, without a branch, which is often predicted wrong after a neighbor: the cursor is
-// taken back if the list is at its end. (Where a list begins a branch is better: memory is read on
-// as predicted, before it is known whether the node has any edges.)
+// The same as `push_cursor`, without a branch, which would often be mispredicted after a neighbor:
+// the cursor is popped again if the list is at its end. (At the beginning of a list a branch is
+// better: the processor reads memory ahead as predicted, before it is known whether the node has
+// any edges.)
 #[inline]
 fn push_rest<Ix: IndexType, S: ReadStore<Ix>>(
     graph: &S,
@@ -243,8 +244,8 @@ fn push_rest<Ix: IndexType, S: ReadStore<Ix>>(
     }
 }
 
-// Advances the cursors to the first neighbor that was not given, and returns it. If it has neighbors
-// itself, its cursor is then the last one.
+// Advances the cursors to the first neighbor that was not yielded, and returns it. If it has
+// neighbors itself, its cursor is then the last one.
 fn advance<Ix: IndexType, S: ReadStore<Ix>>(
     graph: &S,
     dir: Direction,

@@ -4,8 +4,8 @@ ghost use Rattle.std.specs.Borrow.{ftrue};
 
 use std::marker::Model;
 
-/// The nodes that a walk has given, in turn. It exists only in proofs: no bytes, and its methods do
-/// nothing at run time.
+/// The nodes that a walk has yielded, in order. It exists only in proofs: no bytes, and its methods
+/// do nothing at run time.
 #[derive(Drop)]
 pub struct Given {
     pub ghost nodes: { List ℕ },
@@ -16,7 +16,7 @@ impl Model for Given {
 }
 
 impl Given {
-    /// No node was given.
+    /// No node was yielded.
     #[inline]
     pub fn new() -> Given
         ensures { result.nodes ≡ [] }
@@ -31,7 +31,7 @@ impl Given {
         Given {}
     }
 
-    /// One more node was given.
+    /// One more node was yielded.
     #[inline]
     pub fn push(&mut self, n: usize)
         ensures { self.new.nodes ≡ self.old.nodes ++ n ∷ [] }

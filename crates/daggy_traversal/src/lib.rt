@@ -1,4 +1,4 @@
-//! Walks over the nodes that one node reaches: breadth first, depth first, and in postorder.
+//! Walks over the nodes reachable from a node: breadth first, depth first, and in postorder.
 #![tactic(auto)]
 
 pub mod bfs;

@@ -8,8 +8,8 @@ use daggy_base::index::{Direction, EdgeIndex, IndexType, NodeIndex};
 use daggy_base::read_store::ReadStore;
 use daggy_visit::visit::NodeSet;
 
-/// The node at the far end of the edge `e`, and the edge after `e` in its list, or `end`. Returns
-/// `None` if there is no edge `e`.
+/// The other end of the edge `e`, and the edge after `e` in its list, or `end`. Returns `None` if
+/// there is no edge `e`.
 #[inline]
 pub fn next_neighbor<Ix: IndexType, S: ReadStore<Ix>>(
     graph: &S,
@@ -24,7 +24,7 @@ pub fn next_neighbor<Ix: IndexType, S: ReadStore<Ix>>(
     Some((far_end(dir, parent, child), graph.next_edge(e, dir)))
 }
 
-// The end of an edge that it leads to in the direction.
+// The endpoint of an edge that it leads to in this direction.
 #[inline]
 fn far_end<Ix: IndexType>(
     dir: Direction,

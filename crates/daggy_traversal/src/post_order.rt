@@ -19,8 +19,8 @@ use std::alloc::{AllocError, Global};
 use std::fmt;
 use std::marker::Model;
 
-/// The nodes that a node reaches, depth first and in postorder: each node comes after its
-/// neighbors, except for those that lead back to it.
+/// The nodes reachable from a node, depth first and in postorder: each node comes after its
+/// neighbors, except for neighbors that lead back to it.
 ///
 /// It does not borrow the graph; each step borrows it for that step. Until the walk ends, no node
 /// and no edge may be added or removed. Weights may be written: what the next call requires still
@@ -60,11 +60,11 @@ use std::marker::Model;
 pub struct DfsPostOrder<Ix: IndexType = DefaultIx> {
     start: NodeIndex<Ix>,
     dir: Direction,
-    // The nodes on the way from the start to the one that was met last.
+    // The nodes on the path from the start to the node that was met last.
     path: Vec<Link<Ix>>,
-    // Of each node on the path, the edge to look at next.
+    // For each node on the path, the edge to read next.
     cursors: Vec<Link<Ix>>,
-    // The nodes that were given, and those on the path.
+    // The nodes that were yielded, and the nodes on the path.
     met: NodeSet<Ix>,
     given: Given,
 }
@@ -132,7 +132,7 @@ impl<Ix: IndexType> DfsPostOrder<Ix> {
         })
     }
 
-    /// Returns the next node, or `None` if there are no more nodes that the start reaches.
+    /// Returns the next node, or `None` if no reachable node is left.
     ///
     /// The walk goes down from neighbor to neighbor, each time to the first new one in the order of
     /// the list, until a node has none. It returns that node, and goes back up. The start comes
@@ -205,7 +205,7 @@ impl<Ix: IndexType, S: ReadStore<Ix>> FusedWalker<S> for DfsPostOrder<Ix> {
     ghost rests = { λ g w t u r a b. step_rests Ix.number r a.dir a.start a.step b.step };
 }
 
-// Goes down to a node all of whose neighbors were met, and gives it.
+// Goes down to a node all of whose neighbors were met, and returns it.
 fn descend<Ix: IndexType, S: ReadStore<Ix>>(
     graph: &S,
     dir: Direction,

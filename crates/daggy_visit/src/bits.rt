@@ -1,4 +1,4 @@
-//! Flags in a row, a bit each.
+//! A list of flags, one bit each.
 ghost use Rattle.std.specs.Prelude.{◌≡◌, ℕ, ◌+◌, ◌-◌, ◌*◌, ◌<◌, ◌≤◌, ◌⊎◌, ◌↔◌, List, Bool, true, false};
 ghost use Rattle.std.specs.Prelude.{not, length};
 ghost use Rattle.std.specs.Prelude.{slice_set, slice_index_or, replicate, OnOk, OnErr, IfOk, IsOk};

@@ -1,7 +1,7 @@
-//! Reads ahead, for graphs that are larger than the caches.
+//! Prefetching, for graphs that are larger than the caches.
 //!
-//! A walk along one list waits for each edge before the next one. Reads along several lists overlap.
-//! What these functions answer is always true; the compiler does not know that, so it keeps the
+//! A walk along one list waits for each edge before the next one. Reads along several lists
+//! overlap. These functions always return true; the compiler does not know that, so it keeps the
 //! reads.
 ghost use Rattle.std.specs.Prelude.{IsTrue, IfSome};
 
@@ -9,14 +9,14 @@ use crate::walk::step;
 use daggy_base::index::{Direction, EdgeIndex, IndexType, NodeIndex};
 use daggy_base::read_store::ReadStore;
 
-/// The number of edges from which on a graph is expected not to fit the second-level cache, so that
-/// a prefetch pays.
+/// A graph with at least this many edges is expected not to fit the second-level cache, so that a
+/// prefetch pays.
 pub const PREFETCH_FROM: usize = 1 << 15;
 
 // The greatest number of edges of a list that are read side by side with other lists.
 const MOST: usize = 512;
 
-/// Reads an edge that is followed later. The answer is always true.
+/// Reads an edge that is followed later. Always returns true.
 #[inline]
 pub fn touch_edge<Ix: IndexType, S: ReadStore<Ix>>(graph: &S, e: EdgeIndex<Ix>) -> bool
     ensures { IsTrue result }
@@ -52,7 +52,7 @@ fn touch_next<Ix: IndexType, S: ReadStore<Ix>>(
 }
 
 /// Reads lists side by side from the edges with these indices on, if the graph is large, until one
-/// list is left or 512 edges of each are read. The answer is always true.
+/// list is left or 512 edges of each are read. Always returns true.
 #[inline(never)]
 pub fn touch_lists<Ix: IndexType, S: ReadStore<Ix>>(
     graph: &S,
@@ -81,7 +81,7 @@ pub fn touch_lists<Ix: IndexType, S: ReadStore<Ix>>(
     true
 }
 
-/// Reads up to `most` edges of a list of a node. The answer is always true.
+/// Reads up to `most` edges of a list of a node. Always returns true.
 #[inline]
 pub fn touch_list<Ix: IndexType, S: ReadStore<Ix>>(
     graph: &S,
@@ -106,7 +106,7 @@ pub fn touch_list<Ix: IndexType, S: ReadStore<Ix>>(
     e.index() == end || graph.contains_edge_index(e)
 }
 
-/// Reads where the list of each neighbor of a node begins. The answer is always true.
+/// Reads the list head of each neighbor of a node. Always returns true.
 ///
 /// A removal of the node's edges reads the same list heads, and each read waits for the removal
 /// before it; these reads wait only for the walk along the node's own list.

@@ -1,8 +1,9 @@
-//! Traits for code over any graph, and sets of its nodes.
+//! Traits for code that works on any graph, and sets of nodes.
 //!
-//! [`GraphBase`] and [`Data`] have the types of a graph, [`DataMap`] and [`DataMapMut`] its
-//! weights, and [`NodeCount`] and [`NodeIndexable`] the number of its nodes and the bound of their
-//! indices. [`Visitable`] makes sets of nodes, and [`GetAdjacencyMatrix`] the adjacency matrix.
+//! [`GraphBase`] and [`Data`] name the types of a graph, [`DataMap`] and [`DataMapMut`] give access
+//! to its weights, and [`NodeCount`] and [`NodeIndexable`] return the number of its nodes and the
+//! bound of their indices. [`Visitable`] makes sets of nodes, and [`GetAdjacencyMatrix`] the
+//! adjacency matrix.
 //!
 //! The traits are specified against the list model of a graph.
 mod adj_matrix;

@@ -37,7 +37,7 @@ pub use take_while::TakeWhile;
 /// A walk over a graph of type `G`.
 ///
 /// A walker works like an iterator, but each step borrows the graph again. So the graph may change
-/// between steps, and weights may be written on the way.
+/// between steps, and weights may be written during the walk.
 ///
 /// # Examples
 ///
@@ -69,7 +69,7 @@ pub trait Walker<G>: Drop {
     // How many items may still come, as long as the graph is this one.
     ghost items_left: { Self → G → Count } = { λ _ _. endless };
 
-    /// Takes one step. Returns `None` if there is nowhere to go in this graph.
+    /// Takes one step and returns its item, or `None` if no step is possible in this graph.
     ///
     /// # Requires
     ///
@@ -91,6 +91,17 @@ pub trait Walker<G>: Drop {
     /// # Complexity
     ///
     /// O(1), or for an adapter the cost of the same method of the walkers that it wraps.
+    ///
+    /// # Examples
+    ///
+    /// ```
+    /// let mut dag: Dag<&'static str, ()> = Dag::new(rt.alloc());
+    /// let sow = dag.add_node("sow")?;
+    /// dag.add_child(sow, (), "hoe")?;
+    /// dag.add_child(sow, (), "reap")?;
+    /// assert!(rt; dag.children(sow).upper_bound(&dag).is_none());
+    /// assert!(rt; Take::new(dag.children(sow), 1).upper_bound(&dag) == Some(1));
+    /// ```
     #[inline]
     fn upper_bound(&self, graph: &G) -> Option<usize>
         ensures bounded { IfSome result (UpTo (items_left self.now graph.now)) }
@@ -112,6 +123,19 @@ pub trait Walker<G>: Drop {
 }
 
 /// A walker that ends over any graph that does not change during the walk.
+///
+/// # Examples
+///
+/// ```
+/// fn ends<G, W: FiniteWalker<G>>(walker: &W, graph: &G) {
+///     walker.ends_over(graph);
+/// }
+///
+/// let mut dag: Dag<&'static str, ()> = Dag::new(rt.alloc());
+/// let sow = dag.add_node("sow")?;
+/// // With `Cycle::new(dag.children(sow))` this would not compile.
+/// ends(&dag.children(sow), &dag);
+/// ```
 pub trait FiniteWalker<G>: Walker<G> {
     /// Does nothing. Called only for its postcondition: the walk ends.
     #[inline]
@@ -125,8 +149,19 @@ pub trait FiniteWalker<G>: Walker<G> {
     ghost ends: { (w : Self) (g : G) → IsFinite (Self.items_left w g) };
 }
 
-/// A walker that keeps yielding nothing once it yielded nothing, as long as the graph does not
-/// change.
+/// A walker that, once it has yielded nothing, yields nothing in every later step, as long as the
+/// graph does not change.
+///
+/// # Examples
+///
+/// ```
+/// let mut dag: Dag<&'static str, ()> = Dag::new(rt.alloc());
+/// let sow = dag.add_node("sow")?;
+/// let mut walk = dag.children(sow);
+/// assert!(rt; walk.walk_next(&dag).is_none());
+/// walk.rests_over(&dag);
+/// assert!(rt; walk.walk_next(&dag).is_none());
+/// ```
 pub trait FusedWalker<G>: Walker<G> {
     /// Does nothing. Called only for its postcondition: after a step that yielded nothing, the next
     /// one yields nothing.

@@ -1,4 +1,4 @@
-//! What only the compact dag has, or has in a form of its own.
+//! The methods that only the compact dag has, or that differ for it.
 mod copies;
 mod iterators;
 mod map;

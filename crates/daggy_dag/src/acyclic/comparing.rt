@@ -11,14 +11,14 @@ use daggy_reduction::joined_pairs::join_same_pairs;
 use daggy_search::Worklist;
 use std::alloc::AllocError;
 
-// A copy of a dag without its weights, reduced from all nodes.
+// A copy of a dag without weights, reduced from all nodes.
 fn reduced_shape<N: Drop, E: Drop, Ix: IndexType>(
     dag: &Dag<N, E, Ix>,
 ) -> Result<DiGraph<(), (), Ix>, AllocError>
     ensures { IfOk result (λ shape. IsReducedShape Ix.greatest dag.now.graph shape.graph) }
 {
     let mut shape = dag.map(|_, _| (), |_, _| ())?;
-    // Called for its contract: the copy is a dag.
+    // Called only for its postcondition: the copy is a dag.
     let _count = shape.node_count();
     shape.transitive_reduce_all()?;
     Ok(shape.into_graph())
@@ -26,8 +26,8 @@ fn reduced_shape<N: Drop, E: Drop, Ix: IndexType>(
 
 /// Whether two dags have the same number of nodes and the same reachability relation.
 ///
-/// It reduces a copy of each, without weights, from all nodes, and compares which nodes are
-/// adjacent then. Both dags are unchanged.
+/// It reduces a copy of each dag, without weights, from all nodes, and compares which nodes are
+/// adjacent afterwards. Both dags are unchanged.
 ///
 /// # Errors
 ///

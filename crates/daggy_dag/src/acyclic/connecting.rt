@@ -41,7 +41,7 @@ impl<N: Drop, E: Drop, Ix: IndexType, S> Acyclic<N, E, Ix, S>
 where
     S: ReadStore<Ix, NodeWeight = N, EdgeWeight = E>,
 {
-    /// The edges from `a` to `b`, newest first, or none if a node does not exist.
+    /// The edges from `a` to `b`, newest first. Empty if one of the nodes does not exist.
     ///
     /// # Complexity
     ///

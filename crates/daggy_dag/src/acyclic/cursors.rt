@@ -77,6 +77,19 @@ where
     }
 
     /// A cursor over mutable references to the weights of the edges, in ascending index order.
+    ///
+    /// # Examples
+    ///
+    /// ```
+    /// let mut dag: Dag<&'static str, u32> = Dag::new(rt.alloc());
+    /// let sow = dag.add_node("sow")?;
+    /// let (days, _) = dag.add_child(sow, 90, "reap")?;
+    /// let mut weights = dag.edge_weights_mut();
+    /// while let Some(weight) = weights.next() {
+    ///     *weight /= 30;
+    /// }
+    /// assert!(rt; dag.edge_weight(days) == Some(&3));
+    /// ```
     #[inline]
     pub fn edge_weights_mut(&mut self) -> EdgeWeightsMut<'_, N, E, Ix, S>
         ensures same_reference { result.dag.ghost_name ≡ self.entry.ghost_name }

@@ -1,4 +1,4 @@
-//! What depends on some nodes of a dag, and what they depend on.
+//! The descendants and the ancestors of given nodes of a dag.
 ghost use Rattle.std.specs.Prelude.{◌≡◌, ◌+◌, ◌≤◌, map, IfOk};
 ghost use Rattle.daggy_base.specs.Graph.{edge_count as edge_count_of};
 ghost use Rattle.daggy_base.specs.Ordered.{edges_from};
@@ -18,8 +18,9 @@ impl<N: Drop, E: Drop, Ix: IndexType, S> Acyclic<N, E, Ix, S>
 where
     S: ReadStore<Ix, NodeWeight = N, EdgeWeight = E>,
 {
-    /// Returns `nodes` and their descendants, each once and parents before children. After `nodes`
-    /// changed, these are to be recomputed in this order. Nodes that do not exist are ignored.
+    /// Returns `nodes` and their descendants, each once and parents before children. If `nodes`
+    /// have changed, these are the nodes to recompute, in this order. Nodes that do not exist are
+    /// ignored.
     ///
     /// # Errors
     ///
@@ -69,6 +70,18 @@ where
     /// # Complexity
     ///
     /// O(k log k + edges) for k nodes found and the edges that leave them or `nodes`.
+    ///
+    /// # Examples
+    ///
+    /// ```
+    /// let mut dag: Dag<&'static str, ()> = Dag::new(rt.alloc());
+    /// let sow = dag.add_node("sow")?;
+    /// let (_, hoe) = dag.add_child(sow, (), "hoe")?;
+    /// let (_, reap) = dag.add_child(hoe, (), "reap")?;
+    /// // Unlike `affected`, it leaves out `sow`.
+    /// let found = dag.descendants(&[sow])?;
+    /// assert!(rt; found.as_slice() == [hoe, reap].as_slice());
+    /// ```
     pub fn descendants(&mut self, nodes: &[NodeIndex<Ix>]) -> Result<Vec<NodeIndex<Ix>>, AllocError>
         ensures found { IfOk result (λ found. IsOrderOfPart self.old.graph
             (IsDescendantOfAny self.old.graph (map Ix.number nodes.now)) (map Ix.number found.items)) }
@@ -101,6 +114,17 @@ where
     /// # Complexity
     ///
     /// O(k log k + edges) for k nodes found and the edges that enter them or `nodes`.
+    ///
+    /// # Examples
+    ///
+    /// ```
+    /// let mut dag: Dag<&'static str, ()> = Dag::new(rt.alloc());
+    /// let sow = dag.add_node("sow")?;
+    /// let (_, hoe) = dag.add_child(sow, (), "hoe")?;
+    /// let (_, reap) = dag.add_child(hoe, (), "reap")?;
+    /// let found = dag.ancestors(&[reap])?;
+    /// assert!(rt; found.as_slice() == [sow, hoe].as_slice());
+    /// ```
     pub fn ancestors(&mut self, nodes: &[NodeIndex<Ix>]) -> Result<Vec<NodeIndex<Ix>>, AllocError>
         ensures found { IfOk result (λ found. IsOrderOfPart self.old.graph
             (IsAncestorOfAny self.old.graph (map Ix.number nodes.now)) (map Ix.number found.items)) }

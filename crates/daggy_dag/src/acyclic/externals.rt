@@ -37,8 +37,8 @@ impl<N: Drop, E: Drop, Ix: IndexType, S> Acyclic<N, E, Ix, S>
 where
     S: ReadStore<Ix, NodeWeight = N, EdgeWeight = E>,
 {
-    /// The nodes that no edge enters (`Incoming`), which are the roots, or those that no edge
-    /// leaves (`Outgoing`), in ascending index order.
+    /// The nodes without incoming edges (`Incoming`), which are the roots, or the nodes without
+    /// outgoing edges (`Outgoing`), in ascending index order.
     ///
     /// # Complexity
     ///

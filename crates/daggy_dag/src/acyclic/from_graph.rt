@@ -13,18 +13,30 @@ use daggy_search::Scratch;
 use std::alloc::Global;
 use std::{error, fmt};
 
-/// No dag was made of a graph. It holds the graph, which is unchanged.
+/// Making a dag of a graph failed. The error holds the graph, which is unchanged.
+///
+/// # Examples
+///
+/// ```
+/// let mut graph: DiGraph<&'static str, u32> = DiGraph::new(rt.alloc());
+/// let hen = graph.add_node("hen")?;
+/// graph.add_edge(hen, hen, 1)?;
+/// match Dag::try_from_graph(rt.alloc(), graph) {
+///     Ok(_) => assert!(rt; false),
+///     Err(error) => assert!(rt; error.into_graph().edge_count() == 1),
+/// }
+/// ```
 #[derive(Drop)]
 pub enum FromGraphError<S, Ix: IndexType = DefaultIx> {
     /// The graph has a cycle.
     Cycle {
         /// The graph.
         graph: S,
-        /// The nodes of the cycle in order, each once. An edge leads from each to the next, and from
-        /// the last to the first.
+        /// The nodes of the cycle in order, each once. An edge leads from each node to the next,
+        /// and from the last to the first.
         cycle: Vec<NodeIndex<Ix>>,
     },
-    /// Out of memory for the order, or for the search of a cycle.
+    /// Out of memory for the order, or for the search for a cycle.
     Memory {
         /// The graph.
         graph: S,
@@ -67,9 +79,9 @@ impl<N: Drop, E: Drop, Ix: IndexType, S> Acyclic<N, E, Ix, S>
 where
     S: Store<Ix, NodeWeight = N, EdgeWeight = E>,
 {
-    /// The dag of a graph that has no cycle. Indices, weights and lists stay as they are.
+    /// Makes a dag of a graph that has no cycle. Indices, weights and lists are unchanged.
     ///
-    /// [`into_graph`](Acyclic::into_graph) is the way back.
+    /// [`into_graph`](Acyclic::into_graph) is the reverse.
     ///
     /// # Errors
     ///
@@ -78,7 +90,7 @@ where
     ///
     /// # Complexity
     ///
-    /// O(nodes + edges).
+    /// O(slots).
     ///
     /// # Examples
     ///

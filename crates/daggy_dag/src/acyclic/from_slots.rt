@@ -1,4 +1,4 @@
-//! Dags made of given slots, and other orders of their lists.
+//! Building a dag from explicit slots, and permuting its lists.
 ghost use Rattle.std.specs.Prelude.{◌≡◌, ◌≤◌, Err, map, IfOk};
 ghost use Rattle.daggy_base.specs.Graph.{edge_count as edge_count_of, IsCompact};
 ghost use Rattle.daggy_base.specs.Path.{IsAcyclic};
@@ -91,7 +91,7 @@ where
     ///
     /// # Complexity
     ///
-    /// O(nodes + edges).
+    /// O(slots).
     pub fn set_orders(&mut self, orders: &[(Vec<EdgeIndex<Ix>>, Vec<EdgeIndex<Ix>>)])
         requires { AreOrders self.old.graph (map (numbers_of Ix.number) orders.now) }
         ensures ordered { self.new

@@ -16,9 +16,20 @@ impl<N: Drop, E: Drop, Ix: IndexType, S> Acyclic<N, E, Ix, S>
 where
     S: ReadStore<Ix, NodeWeight = N, EdgeWeight = E>,
 {
-    /// A shared reference to the graph inside. Its own methods, the traits of `visit`, and the
-    /// searches and traversals of any graph can read it; it cannot be changed through this
-    /// reference.
+    /// A shared reference to the graph inside, which cannot be changed through it. It is for the
+    /// methods of the graph, for the traits of `visit`, and for searches and traversals that take
+    /// any graph.
+    ///
+    /// # Examples
+    ///
+    /// ```
+    /// let mut dag: Dag<&'static str, u32> = Dag::new(rt.alloc());
+    /// let sow = dag.add_node("sow")?;
+    /// let (_, reap) = dag.add_child(sow, 90, "reap")?;
+    /// // What takes any graph takes a dag's.
+    /// let components = weakly_connected_components(rt.alloc(), dag.graph())?;
+    /// assert!(rt; components.component_of(sow) == components.component_of(reap));
+    /// ```
     #[inline]
     pub fn graph(&self) -> &S
         ensures graph { S.graph result.now ≡ self.now.graph }
@@ -30,12 +41,32 @@ where
     }
 
     /// The allocator of the dag.
+    ///
+    /// # Examples
+    ///
+    /// ```
+    /// let mut dag: Dag<&'static str, ()> = Dag::new(rt.alloc());
+    /// let sow = dag.add_node("sow")?;
+    /// let mut nodes = Vec::new(dag.allocator());
+    /// nodes.push(sow)?;
+    /// assert!(rt; dag.transitive_reduce(nodes).is_ok());
+    /// ```
     #[inline]
     pub fn allocator(&self) -> Global {
         self.guarded.scratch.allocator()
     }
 
-    /// Returns the graph inside, without copying it. It can then be given cycles.
+    /// Returns the graph inside, without copying it. It is no longer kept acyclic.
+    ///
+    /// # Examples
+    ///
+    /// ```
+    /// let mut dag: Dag<&'static str, u32> = Dag::new(rt.alloc());
+    /// let sow = dag.add_node("sow")?;
+    /// let mut graph = dag.into_graph();
+    /// // A graph may have cycles.
+    /// assert!(rt; graph.add_edge(sow, sow, 365).is_ok());
+    /// ```
     #[inline]
     pub fn into_graph(self) -> S
         ensures graph { S.graph result ≡ self.graph }
@@ -48,6 +79,17 @@ where
 
 impl<N: Drop, E: Drop, Ix: IndexType> Acyclic<N, E, Ix, DiGraph<N, E, Ix>> {
     /// Returns the graph inside, without copying it, and a topological order of its nodes.
+    ///
+    /// # Examples
+    ///
+    /// ```
+    /// let mut dag: Dag<&'static str, u32> = Dag::new(rt.alloc());
+    /// let reap = dag.add_node("reap")?;
+    /// let (_, sow) = dag.add_parent(reap, 90, "sow")?;
+    /// let (graph, order) = dag.into_parts();
+    /// assert!(rt; graph.node_count() == 2);
+    /// assert!(rt; order.nodes().next() == Some(sow));
+    /// ```
     #[inline]
     pub fn into_parts(self) -> (DiGraph<N, E, Ix>, Order<Ix>)
         ensures graph { result.0.graph ≡ self.graph }

@@ -26,10 +26,11 @@ where
     /// [`add_edge`](Acyclic::add_edge); the update itself never fails. After the first edge that
     /// closes a cycle the order is no longer updated.
     ///
-    /// If an edge needs a search and the batch is large compared with the dag, or searches have
-    /// read as many edges as the dag had nodes or edges before, the nodes are sorted once at the
-    /// end instead, by Kahn's algorithm (1962), or by a depth-first search if memory for that is
-    /// refused.
+    /// Searches for each edge are avoided if they would cost too much: if an edge needs a search,
+    /// and either the batch is large compared with the dag, or the searches so far have read as
+    /// many edges as the dag had nodes or edges before. Then all nodes are sorted once at the end
+    /// instead, by Kahn's algorithm (1962), or by a depth-first search if an allocation for that
+    /// fails.
     ///
     /// # Requires
     ///
@@ -76,11 +77,12 @@ where
         self.guarded.add_edges(items)
     }
 
-    /// Adds the edges that `items` yields, one by one, and before each edge as many nodes of the
-    /// default weight as its endpoints need. It stops at the first edge that fails, and keeps what
-    /// it added before.
+    /// Adds the edges that `items` yields, one by one. Before each edge it adds nodes with the
+    /// default weight until both endpoints exist. It stops at the first edge that fails, and keeps
+    /// what it added before.
     ///
-    /// An item is a pair of nodes, for an edge of the default weight, or a pair with a weight.
+    /// An item is a pair of nodes, for an edge with the default weight, or a pair of nodes and a
+    /// weight.
     ///
     /// # Requires
     ///
@@ -92,12 +94,24 @@ where
     /// `end` or the index type has no index left for the edge, `EdgeError::NodeMemory` if an
     /// allocation for a missing node fails, `EdgeError::BadEndpoint` if an endpoint is a vacant
     /// slot, `EdgeError::WouldCycle` if the edge would close a cycle, and `EdgeError::Memory` if an
-    /// allocation for the edge fails. Nodes that were added for that edge stay, too.
+    /// allocation for the edge fails. Nodes that were added for that edge are kept, too.
     ///
     /// # Complexity
     ///
     /// The cost of [`add_node`](Acyclic::add_node) for each node, and of
     /// [`add_edge`](Acyclic::add_edge) for each edge.
+    ///
+    /// # Examples
+    ///
+    /// ```
+    /// let mut dag: Dag<u32, u32> = Dag::new(rt.alloc());
+    /// let sow = NodeIndex::new(0);
+    /// let reap = NodeIndex::new(1);
+    /// let circle = Vec::from_array(rt.alloc(), [(sow, reap, 90), (reap, sow, 5)])?;
+    /// assert!(rt; dag.extend_with_edges(circle).is_err());
+    /// // The first edge is kept, and so are the nodes that it needed.
+    /// assert!(rt; dag.edge_count() == 1 && dag.node_count() == 2);
+    /// ```
     pub fn extend_with_edges<
         T: IntoWeightedEdge<E, NodeId = NodeIndex<Ix>>,
         I: IntoIterator<Item = T>,
@@ -121,8 +135,8 @@ where
     }
 
     /// A dag of the edges that `items` yields, made by
-    /// [`extend_with_edges`](Acyclic::extend_with_edges) from an empty one: nodes that are missing
-    /// get the default weight.
+    /// [`extend_with_edges`](Acyclic::extend_with_edges) from an empty dag: its nodes get the
+    /// default weight.
     ///
     /// # Requires
     ///

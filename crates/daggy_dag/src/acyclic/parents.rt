@@ -48,7 +48,7 @@ fn sort_by_index<Ix: IndexType>(edges: &mut Vec<EdgeIndex<Ix>>)
     edges.sort_unstable_by_key(|e| e.index());
 }
 
-// The edges that enter a node, by ascending index.
+// The edges that enter a node, in ascending index order.
 fn ascending_entering_edges<Ix: IndexType, S: ReadStore<Ix>>(
     alloc: Global,
     store: &S,
@@ -72,8 +72,8 @@ fn edge_indices_left<Ix: IndexType, S: ReadStore<Ix>>(store: &S) -> usize
     EdgeIndex::<Ix>::end().index() - store.edge_count()
 }
 
-// Replaces the edges that enter a node. If memory runs out nothing has changed, and the error holds
-// the items.
+// Replaces the edges that enter a node. If an allocation fails, nothing has changed, and the error
+// holds the items.
 fn replace_parents<Ix: IndexType, S: Store<Ix>>(
     store: &mut S,
     alloc: Global,
@@ -120,6 +120,15 @@ where
     /// # Complexity
     ///
     /// O(items).
+    ///
+    /// # Examples
+    ///
+    /// ```
+    /// let mut dag: Dag<&'static str, u32> = Dag::new(rt.alloc());
+    /// let sow = dag.add_node("sow")?;
+    /// assert!(rt; dag.contains_parents(&[(sow, 90)]));
+    /// assert!(rt; !dag.contains_parents(&[(sow, 90), (NodeIndex::new(9), 30)]));
+    /// ```
     pub fn contains_parents(&self, items: &[(NodeIndex<Ix>, E)]) -> bool
         ensures { IsTrue result ↔ All (λ x. HasNode self.now.graph (Ix.number x.0)) items.now }
     {
@@ -131,10 +140,11 @@ where
         true
     }
 
-    /// Replaces the edges that enter `n`, all of them or none: afterwards there is one from the
-    /// parent of each item, with its weight. They are added in the order of the items, as by
-    /// [`add_edge`](Acyclic::add_edge); then the old ones are removed from the highest index down,
-    /// each as by [`remove_edge`](Acyclic::remove_edge), and their weights are dropped.
+    /// Replaces the edges that enter `n`, all of them or none: afterwards one edge enters `n` for
+    /// each item, from the parent and with the weight of the item. The new edges are added in the
+    /// order of the items, as by [`add_edge`](Acyclic::add_edge); then the old edges are removed
+    /// from the highest index down, each as by [`remove_edge`](Acyclic::remove_edge), and their
+    /// weights are dropped.
     ///
     /// A parent may occur more than once. Without items, `n` has no parents afterwards.
     ///
@@ -148,13 +158,13 @@ where
     /// Each error holds the items, and the dag is unchanged. `ParentsError::WouldCycle` if `n`
     /// reaches one of the parents, or is one of them; this is decided first, and does not allocate.
     /// Otherwise `ParentsError::Full` if there are too few indices for the new edges in addition to
-    /// all old ones, and `ParentsError::Memory` if an allocation fails.
+    /// all old edges, and `ParentsError::Memory` if an allocation fails.
     ///
     /// # Complexity
     ///
-    /// One search like that of [`add_edge`](Acyclic::add_edge), however many items there are, and
-    /// O(1) for each item. For the k edges that entered `n`: O(k log k), and their removals, each of
-    /// which passes the new edges in the list of `n`.
+    /// One search as in [`add_edge`](Acyclic::add_edge), however many items there are, and O(1) for
+    /// each item. For the k edges that entered `n`: O(k log k), plus their removals, each of which
+    /// walks past the new edges in the list of `n`.
     ///
     /// # Examples
     ///

@@ -15,10 +15,10 @@ impl<N: Drop, E: Drop, Ix: IndexType, S> Acyclic<N, E, Ix, S>
 where
     S: ReadStore<Ix, NodeWeight = N, EdgeWeight = E>,
 {
-    /// Borrows the dag for questions about its paths, and allocates memory for the searches. The dag
-    /// can be read between two questions, as in a loop over the neighbors of a node.
+    /// Borrows the dag for queries about its paths, and allocates memory for the searches. The dag
+    /// can be read between two queries, as in a loop over the neighbors of a node.
     ///
-    /// [`Paths`] has all questions that take `&mut self` here: [`reaches`](Acyclic::reaches),
+    /// [`Paths`] has all queries that take `&mut self` here: [`reaches`](Acyclic::reaches),
     /// [`path`](Acyclic::path), [`descendants`](Acyclic::descendants) and so on.
     ///
     /// # Errors
@@ -27,7 +27,7 @@ where
     ///
     /// # Complexity
     ///
-    /// O(nodes), so make one for many questions.
+    /// O(nodes), so use one `Paths` for many queries.
     ///
     /// # Examples
     ///
@@ -90,6 +90,16 @@ where
     /// # Complexity
     ///
     /// The same as [`reaches`](Acyclic::reaches) from `b` to `a`.
+    ///
+    /// # Examples
+    ///
+    /// ```
+    /// let mut dag: Dag<&'static str, u32> = Dag::new(rt.alloc());
+    /// let sow = dag.add_node("sow")?;
+    /// let (_, reap) = dag.add_child(sow, 90, "reap")?;
+    /// assert!(rt; dag.would_close_cycle(reap, sow));
+    /// assert!(rt; !dag.would_close_cycle(sow, reap));
+    /// ```
     pub fn would_close_cycle(&mut self, a: NodeIndex<Ix>, b: NodeIndex<Ix>) -> bool
         ensures decided { IsTrue result ↔ Reaches self.old.graph (Ix.number b) (Ix.number a) }
         ensures same { self.new.graph ≡ self.old.graph }
@@ -104,8 +114,8 @@ where
     /// Returns a shortest path from `a` to `b`, as its nodes in order, or `None` if no path leads
     /// from `a` to `b`. The path from an existing node to itself is that node alone.
     ///
-    /// An edge from `a` to `b` is rejected as a cycle if there is a path from `b` to `a`; that path
-    /// and the edge are the cycle.
+    /// If [`add_edge`](Acyclic::add_edge) rejects an edge from `a` to `b` as a cycle, the cycle is
+    /// that edge and the path from `b` to `a`.
     ///
     /// # Errors
     ///
@@ -148,8 +158,8 @@ where
     /// Returns the edges along a shortest path from `a` to `b`, in order, or `None` if no path leads
     /// from `a` to `b`. From an existing node to itself there are none.
     ///
-    /// From each node of the path to the next it has the edge that
-    /// [`find_edge`](Acyclic::find_edge) returns, the newest of parallel edges.
+    /// Of parallel edges along the path it returns the newest, which is the edge that
+    /// [`find_edge`](Acyclic::find_edge) returns.
     ///
     /// # Errors
     ///
@@ -197,6 +207,18 @@ where
     /// # Complexity
     ///
     /// The same as [`find_edge`](Acyclic::find_edge).
+    ///
+    /// # Examples
+    ///
+    /// ```
+    /// let mut dag: Dag<&'static str, u32> = Dag::new(rt.alloc());
+    /// let sow = dag.add_node("sow")?;
+    /// let (_, hoe) = dag.add_child(sow, 30, "hoe")?;
+    /// let (_, reap) = dag.add_child(hoe, 60, "reap")?;
+    /// assert!(rt; dag.contains_edge(sow, hoe));
+    /// // A path is no edge.
+    /// assert!(rt; !dag.contains_edge(sow, reap));
+    /// ```
     pub fn contains_edge(&self, a: NodeIndex<Ix>, b: NodeIndex<Ix>) -> bool
         ensures { IsTrue result ↔ AreJoined self.now.graph (Ix.number a) (Ix.number b) }
     {

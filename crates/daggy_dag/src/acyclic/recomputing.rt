@@ -17,11 +17,11 @@ where
     S: Store<Ix, NodeWeight = N, EdgeWeight = E>,
 {
     /// Gives each node the weight that `f` returns for it, parents before children. `f` is called
-    /// with the graph and the node, and the parents of the node have their new weights by then.
+    /// with the graph and the node, after the parents of the node have got their new weights.
     ///
     /// # Requires
     ///
-    /// - `f` may be called at each node, whatever weights the dag has by then.
+    /// - `f` may be called at each node, whatever the weights of the dag are at that time.
     ///
     /// # Complexity
     ///
@@ -57,17 +57,17 @@ where
         recompute_nodes(&mut self.guarded.store, self.guarded.order.nodes(), &f);
     }
 
-    /// As [`recompute`](Acyclic::recompute), with a closure that may fail and may change what it
-    /// captures.
+    /// The same as [`recompute`](Acyclic::recompute), with a closure that may fail and may change
+    /// what it captures.
     ///
     /// # Requires
     ///
-    /// - `f` may be called at each node, whatever weights the dag has by then.
+    /// - `f` may be called at each node, whatever the weights of the dag are at that time.
     ///
     /// # Errors
     ///
-    /// Returns the first error that `f` returns. The nodes before that one have their new weights
-    /// then, and the others are unchanged.
+    /// Returns the first error that `f` returns. The nodes before the one that failed then have
+    /// their new weights, and the others are unchanged.
     ///
     /// # Complexity
     ///

@@ -37,10 +37,10 @@ impl<N: Drop, E: Drop, Ix: IndexType, S> Acyclic<N, E, Ix, S>
 where
     S: Store<Ix, NodeWeight = N, EdgeWeight = E>,
 {
-    /// Removes the edges that are redundant below `roots`: those whose parent a root reaches, and
-    /// whose parent reaches their child by another path of two or more edges. Reachability is
-    /// unchanged. From roots that reach all nodes it is the transitive reduction of the dag (Aho,
-    /// Garey and Ullman 1972), but for parallel edges.
+    /// Removes the edges that are redundant below `roots`. An edge is redundant below them if one
+    /// of the roots reaches its parent, and its parent reaches its child by another path of two or
+    /// more edges. Reachability is unchanged. From roots that reach all nodes it is the transitive
+    /// reduction of the dag (Aho, Garey and Ullman 1972), but for parallel edges.
     ///
     /// A parallel edge is not such a path, so the edges from one node to another are either all
     /// removed or all kept. Missing roots are ignored. The edges are removed from the highest index
@@ -101,8 +101,8 @@ where
         )
     }
 
-    /// Removes all redundant edges: those whose parent reaches their child by another path of two or
-    /// more edges. Reachability is unchanged.
+    /// Removes all redundant edges: an edge is redundant if its parent reaches its child by another
+    /// path of two or more edges. Reachability is unchanged.
     ///
     /// It is [`transitive_reduce`](Acyclic::transitive_reduce) from all nodes.
     ///

@@ -1,4 +1,4 @@
-//! Keeping the nodes, or the edges, that a closure chooses.
+//! Keeping only the nodes or the edges that a closure chooses.
 ghost use Rattle.std.specs.Prelude.{◌≡◌};
 ghost use Rattle.daggy_base.specs.Path.{IsAcyclic};
 ghost use Rattle.daggy_base.specs.Removal.{KeepsIndices};

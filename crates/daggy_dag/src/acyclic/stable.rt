@@ -1,4 +1,4 @@
-//! What only the stable dag has, or has in a form of its own.
+//! The methods that only the stable dag has, or that differ for it.
 mod convert;
 mod copies;
 mod iterators;

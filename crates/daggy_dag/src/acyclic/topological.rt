@@ -13,12 +13,23 @@ use std::fmt;
 use std::iter::{DoubleEndedIterator, ExactSizeIterator, FusedIterator};
 use std::marker::Model;
 
-/// An iterator over the nodes of a dag in topological order. It can be read from both ends, so
-/// `.rev()` yields children before parents.
+/// An iterator over the nodes of a dag in topological order. It is double-ended: `.rev()` yields
+/// children before parents.
 ///
 /// # Complexity
 ///
 /// O(nodes) for the whole iteration.
+///
+/// # Examples
+///
+/// ```
+/// let mut dag: Dag<&'static str, u32> = Dag::new(rt.alloc());
+/// let reap = dag.add_node("reap")?;
+/// let (_, sow) = dag.add_parent(reap, 90, "sow")?;
+/// // From the end: children before parents.
+/// let back: Vec<_> = dag.topological_order().rev().collect(rt.alloc())?;
+/// assert!(rt; back.as_slice() == [reap, sow].as_slice());
+/// ```
 #[derive(Drop)]
 pub struct TopologicalOrder<'a, Ix: IndexType = DefaultIx> {
     nodes: Nodes<'a, Ix>,
@@ -37,8 +48,8 @@ where
     S: ReadStore<Ix, NodeWeight = N, EdgeWeight = E>,
 {
     /// Returns an iterator over the nodes in topological order: each parent comes before its
-    /// children. It is the order that the dag keeps, so nothing is searched or sorted. It can be
-    /// read from both ends, so `.rev()` yields children before parents.
+    /// children. It is the order that the dag maintains, so nothing is searched or sorted. It is
+    /// double-ended: `.rev()` yields children before parents.
     ///
     /// Adding a node or an edge may change the order.
     ///
@@ -67,8 +78,19 @@ where
         }
     }
 
-    /// The topological order that the dag maintains: it tells which of two nodes comes first, and
-    /// the position of a node.
+    /// The topological order that the dag maintains, which can compare two nodes and return the
+    /// position of a node.
+    ///
+    /// # Examples
+    ///
+    /// ```
+    /// let mut dag: Dag<&'static str, u32> = Dag::new(rt.alloc());
+    /// let reap = dag.add_node("reap")?;
+    /// let (_, sow) = dag.add_parent(reap, 90, "sow")?;
+    /// let mut nodes = dag.order().nodes();
+    /// assert!(rt; nodes.next() == Some(sow));
+    /// assert!(rt; nodes.next() == Some(reap));
+    /// ```
     #[inline]
     pub fn order(&self) -> &Order<Ix>
         ensures { IsOrderOf self.now.graph result.now }
@@ -76,16 +98,26 @@ where
         &self.guarded.order
     }
 
-    /// Whether `a` precedes `b` in the order that the dag keeps. False if a node is missing.
+    /// Whether `a` precedes `b` in the order that the dag maintains. False if a node is missing.
     ///
     /// A parent precedes its children. If neither node reaches the other, the answer may change
     /// when edges are added, and the contract does not say which of them precedes the other. To
-    /// compare several nodes by one order, take it from
+    /// compare several nodes by one fixed order, collect
     /// [`topological_order`](Acyclic::topological_order).
     ///
     /// # Complexity
     ///
     /// O(1).
+    ///
+    /// # Examples
+    ///
+    /// ```
+    /// let mut dag: Dag<&'static str, u32> = Dag::new(rt.alloc());
+    /// let reap = dag.add_node("reap")?;
+    /// let (_, sow) = dag.add_parent(reap, 90, "sow")?;
+    /// assert!(rt; dag.stands_before(sow, reap));
+    /// assert!(rt; !dag.stands_before(sow, sow));
+    /// ```
     #[inline]
     pub fn stands_before(&self, a: NodeIndex<Ix>, b: NodeIndex<Ix>) -> bool
         ensures { (order : List ℕ) × IsOrderOf self.now.graph order

@@ -1,4 +1,4 @@
-//! Additions that test what the plain ones require.
+//! Methods that add nodes and edges, and test what `add_node`, `add_edge` and the like require.
 ghost use Rattle.std.specs.Prelude.{◌≡◌, ◌+◌, ◌<◌, ◌≤◌, ◌↔◌, ◌⊎◌, Err, None, IfOk, IfErr, OnErr};
 ghost use Rattle.std.specs.Prelude.{IfSome, IsOkAnd};
 ghost use Rattle.daggy_base.specs.Graph.{HasNode, node_count as node_count_of};
@@ -66,15 +66,15 @@ where
         self.add_node(weight)
     }
 
-    /// Adds an edge as [`add_edge`](Acyclic::add_edge) does, if both of its ends exist and there is
-    /// an index left for it.
+    /// Adds an edge as [`add_edge`](Acyclic::add_edge) does, if both of its endpoints exist and
+    /// there is an index left for it.
     ///
     /// # Errors
     ///
-    /// Returns, in this order, `EdgeError::BadEndpoint` if an end does not exist,
-    /// `EdgeError::Full` if the index type has no index left, `EdgeError::WouldCycle` if `b` already
-    /// reaches `a`, and `EdgeError::Memory` if an allocation fails. Each error holds the weight, and
-    /// the dag is unchanged.
+    /// Returns, in this order, `EdgeError::BadEndpoint` if an endpoint does not exist,
+    /// `EdgeError::Full` if the index type has no index left, `EdgeError::WouldCycle` if `b`
+    /// already reaches `a`, and `EdgeError::Memory` if an allocation fails. Each error holds the
+    /// weight, and the dag is unchanged.
     ///
     /// # Complexity
     ///
@@ -123,17 +123,29 @@ where
         self.add_edge(a, b, weight)
     }
 
-    /// Replaces the weight of an edge, or adds one, as [`update_edge`](Acyclic::update_edge) does, if
-    /// both ends exist and there is an index left for an edge that has to be added.
+    /// Replaces the weight of an edge, or adds one, as [`update_edge`](Acyclic::update_edge) does,
+    /// if both endpoints exist and, for an edge that has to be added, there is an index left.
     ///
     /// # Errors
     ///
-    /// The same as [`try_add_edge`](Acyclic::try_add_edge). If both ends exist and an edge leads
-    /// from `a` to `b`, the call cannot fail.
+    /// The same as [`try_add_edge`](Acyclic::try_add_edge). If an edge leads from `a` to `b`
+    /// already, the call cannot fail.
     ///
     /// # Complexity
     ///
     /// The same as [`update_edge`](Acyclic::update_edge).
+    ///
+    /// # Examples
+    ///
+    /// ```
+    /// let mut dag: Dag<&'static str, u32> = Dag::new(rt.alloc());
+    /// let sow = dag.try_add_node("sow")?;
+    /// let (days, reap) = dag.try_add_child(sow, 90, "reap")?;
+    /// assert!(rt; dag.try_update_edge(sow, reap, 80) == Ok(days));
+    /// assert!(rt; dag.edge_weight(days) == Some(&80));
+    /// let nowhere = NodeIndex::new(9);
+    /// assert!(rt; dag.try_update_edge(sow, nowhere, 5) == Err(EdgeError::BadEndpoint(5)));
+    /// ```
     pub fn try_update_edge(
         &mut self,
         a: NodeIndex<Ix>,
@@ -241,6 +253,15 @@ where
     /// # Complexity
     ///
     /// The same as [`add_parent`](Acyclic::add_parent).
+    ///
+    /// # Examples
+    ///
+    /// ```
+    /// let mut dag: Dag<&'static str, u32> = Dag::new(rt.alloc());
+    /// let reap = dag.try_add_node("reap")?;
+    /// let (days, sow) = dag.try_add_parent(reap, 90, "sow")?;
+    /// assert!(rt; dag.edge_endpoints(days) == Some((sow, reap)));
+    /// ```
     pub fn try_add_parent(
         &mut self,
         child: NodeIndex<Ix>,

@@ -19,6 +19,18 @@ use std::marker::{Model, PhantomData};
 ///
 /// It does not borrow the dag. If the edge that comes next was removed, it yields nothing from then
 /// on, unless an edge gets that index again.
+///
+/// # Examples
+///
+/// ```
+/// let mut dag: StableDag<&'static str, u32> = StableDag::new(rt.alloc());
+/// let sow = dag.add_node("sow")?;
+/// let (days, _) = dag.add_child(sow, 90, "reap")?;
+/// let mut walk = dag.children(sow);
+/// // The edge that comes next is removed.
+/// assert!(rt; dag.remove_edge(days) == Some(90));
+/// assert!(rt; walk.walk_next(&dag).is_none());
+/// ```
 #[derive_where(Debug; Ix: IndexType)]
 pub struct Children<N, E, Ix = DefaultIx> {
     pub(super) edge: EdgeIndex<Ix>,
@@ -97,6 +109,17 @@ where
 ///
 /// It does not borrow the dag. If the edge that comes next was removed, it yields nothing from then
 /// on, unless an edge gets that index again.
+///
+/// # Examples
+///
+/// ```
+/// let mut dag: Dag<&'static str, u32> = Dag::new(rt.alloc());
+/// let reap = dag.add_node("reap")?;
+/// let (days, sow) = dag.add_parent(reap, 90, "sow")?;
+/// let mut walk = dag.parents(reap);
+/// assert!(rt; walk.walk_next(&dag) == Some((days, sow)));
+/// assert!(rt; walk.walk_next(&dag).is_none());
+/// ```
 #[derive_where(Debug; Ix: IndexType)]
 pub struct Parents<N, E, Ix = DefaultIx> {
     pub(super) edge: EdgeIndex<Ix>,

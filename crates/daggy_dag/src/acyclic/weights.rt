@@ -18,6 +18,17 @@ where
     S: Store<Ix, NodeWeight = N, EdgeWeight = E>,
 {
     /// A mutable reference to the weight of a node, or `None` if there is no such node.
+    ///
+    /// # Examples
+    ///
+    /// ```
+    /// let mut dag: Dag<u32, ()> = Dag::new(rt.alloc());
+    /// let n = dag.add_node(1)?;
+    /// if let Some(weight) = dag.node_weight_mut(n) {
+    ///     *weight = 7;
+    /// }
+    /// assert!(rt; dag.node_weight(n) == Some(&7));
+    /// ```
     #[inline]
     pub fn node_weight_mut(&mut self, n: NodeIndex<Ix>) -> Option<&mut N>
         ensures* writes_back { sem 𝓛
@@ -32,6 +43,18 @@ where
     }
 
     /// A mutable reference to the weight of an edge, or `None` if there is no such edge.
+    ///
+    /// # Examples
+    ///
+    /// ```
+    /// let mut dag: Dag<&'static str, u32> = Dag::new(rt.alloc());
+    /// let sow = dag.add_node("sow")?;
+    /// let (days, _) = dag.add_child(sow, 90, "reap")?;
+    /// if let Some(weight) = dag.edge_weight_mut(days) {
+    ///     *weight = 80;
+    /// }
+    /// assert!(rt; dag.edge_weight(days) == Some(&80));
+    /// ```
     #[inline]
     pub fn edge_weight_mut(&mut self, e: EdgeIndex<Ix>) -> Option<&mut E>
         ensures* writes_back { sem 𝓛

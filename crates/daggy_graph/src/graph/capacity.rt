@@ -18,6 +18,17 @@ impl<N, E, Ix: IndexType> DiGraph<N, E, Ix> {
     /// # Complexity
     ///
     /// O(1), plus the allocations.
+    ///
+    /// # Examples
+    ///
+    /// ```
+    /// let mut graph: DiGraph<u32, u32> = DiGraph::with_capacity(rt.alloc(), 2, 1)?;
+    /// // None of these three allocates.
+    /// let sow = graph.add_node(1)?;
+    /// let reap = graph.add_node(2)?;
+    /// graph.add_edge(sow, reap, 90)?;
+    /// assert!(rt; graph.edge_count() == 1);
+    /// ```
     pub fn with_capacity(alloc: Global, nodes: usize, edges: usize) -> Result<Self, AllocError>
     where
         N: Drop,
@@ -43,6 +54,18 @@ impl<N, E, Ix: IndexType> DiGraph<N, E, Ix> {
     /// # Complexity
     ///
     /// O(nodes) if a buffer has to be moved, and O(1) otherwise.
+    ///
+    /// # Examples
+    ///
+    /// ```
+    /// let mut graph: DiGraph<u32, u32> = DiGraph::new(rt.alloc());
+    /// graph.reserve_nodes(100)?;
+    /// graph.reserve_edges(300)?;
+    /// let n = graph.add_node(1)?;
+    /// // The rest of the memory is not needed.
+    /// graph.shrink_to_fit()?;
+    /// assert!(rt; graph.node_weight(n) == Some(&1));
+    /// ```
     pub fn reserve_nodes(&mut self, additional: usize) -> Result<(), AllocError>
         ensures same { self.new ≡ self.old }
         ensures fits { OnOk result (length self.new.graph.nodes + additional < 2 ^ 63) }
@@ -60,6 +83,21 @@ impl<N, E, Ix: IndexType> DiGraph<N, E, Ix> {
     /// # Complexity
     ///
     /// O(nodes) if a buffer has to be moved, and O(1) otherwise.
+    ///
+    /// # Examples
+    ///
+    /// ```
+    /// let mut graph: DiGraph<u32, u32> = DiGraph::new(rt.alloc());
+    /// graph.reserve_exact_nodes(1)?;
+    /// graph.reserve_exact_edges(1)?;
+    /// // Neither of these allocates.
+    /// let sow = graph.add_node(1)?;
+    /// let days = graph.add_edge(sow, sow, 90)?;
+    /// assert!(rt; graph.remove_edge(days) == Some(90));
+    /// graph.shrink_to_fit_edges()?;
+    /// graph.shrink_to_fit_nodes()?;
+    /// assert!(rt; graph.node_count() == 1);
+    /// ```
     pub fn reserve_exact_nodes(&mut self, additional: usize) -> Result<(), AllocError>
         ensures same { self.new ≡ self.old }
         ensures fits { OnOk result (length self.new.graph.nodes + additional < 2 ^ 63) }

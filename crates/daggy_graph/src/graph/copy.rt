@@ -31,6 +31,16 @@ impl<N, E, Ix: IndexType> DiGraph<N, E, Ix> {
     /// # Complexity
     ///
     /// O(nodes + edges).
+    ///
+    /// # Examples
+    ///
+    /// ```
+    /// let mut graph: DiGraph<&'static str, u32> = DiGraph::new(rt.alloc());
+    /// let sow = graph.add_node("sow")?;
+    /// let copy = graph.try_clone()?;
+    /// assert!(rt; graph.remove_node(sow) == Some("sow"));
+    /// assert!(rt; copy.node_weight(sow) == Some(&"sow"));
+    /// ```
     pub fn try_clone(&self) -> Result<Self, AllocError>
     where
         N: Clone + Drop,

@@ -39,6 +39,19 @@ impl<N, E, Ix: IndexType> DiGraph<N, E, Ix> {
     }
 
     /// Whether an index is left for one more edge.
+    ///
+    /// # Examples
+    ///
+    /// ```
+    /// let mut graph: DiGraph<&'static str, (), u8> = DiGraph::new(rt.alloc());
+    /// let sow = graph.add_node("sow")?;
+    /// for _ in 0..300 {
+    ///     if graph.can_add_edge() {
+    ///         graph.add_edge(sow, sow, ())?;
+    ///     }
+    /// }
+    /// assert!(rt; graph.edge_count() == 255);
+    /// ```
     #[inline]
     pub fn can_add_edge(&self) -> bool
         ensures { IsTrue result ↔ (edge_count_of self.now.graph < Ix.greatest) }

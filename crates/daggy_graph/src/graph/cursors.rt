@@ -12,6 +12,18 @@ use daggy_base::index::{DefaultIx, EdgeIndex, IndexType, NodeIndex};
 /// Mutable references to the weights of the nodes, one at a time, in ascending index order.
 ///
 /// A lending cursor, not an `Iterator`: each reference must end before the next call.
+///
+/// # Examples
+///
+/// ```
+/// let mut graph: DiGraph<u32, ()> = DiGraph::new(rt.alloc());
+/// let one = graph.add_node(1)?;
+/// let mut weights = graph.node_weights_mut();
+/// while let Some(weight) = weights.next() {
+///     *weight *= 10;
+/// }
+/// assert!(rt; graph.node_weight(one) == Some(&10));
+/// ```
 #[derive(Drop)]
 pub struct NodeWeightsMut<'a, N, E, Ix: IndexType = DefaultIx> {
     graph: &'a mut DiGraph<N, E, Ix>,
@@ -21,6 +33,19 @@ pub struct NodeWeightsMut<'a, N, E, Ix: IndexType = DefaultIx> {
 /// Mutable references to the weights of the edges, one at a time, in ascending index order.
 ///
 /// A lending cursor, not an `Iterator`: each reference must end before the next call.
+///
+/// # Examples
+///
+/// ```
+/// let mut graph: DiGraph<&'static str, u32> = DiGraph::new(rt.alloc());
+/// let sow = graph.add_node("sow")?;
+/// let days = graph.add_edge(sow, sow, 90)?;
+/// let mut weights = graph.edge_weights_mut();
+/// while let Some(weight) = weights.next() {
+///     *weight /= 30;
+/// }
+/// assert!(rt; graph.edge_weight(days) == Some(&3));
+/// ```
 #[derive(Drop)]
 pub struct EdgeWeightsMut<'a, N, E, Ix: IndexType = DefaultIx> {
     graph: &'a mut DiGraph<N, E, Ix>,

@@ -1,4 +1,4 @@
-//! The part of a graph that closures keep.
+//! The subgraph that closures keep.
 ghost use Rattle.std.specs.Prelude.{◌≡◌, ◌+◌, ◌<◌, ◌≤◌, [], ◌∷◌, ◌++◌, map, length, vec_len};
 ghost use Rattle.std.specs.Prelude.{vec_capacity, IfOk};
 ghost use Rattle.daggy_base.specs.CallsInTurn.{CanCallAtSlots, CanCallAtSomeSlots};
@@ -183,6 +183,20 @@ impl<N, E, Ix: IndexType> DiGraph<N, E, Ix> {
     /// # Complexity
     ///
     /// O(nodes + edges), plus the calls.
+    ///
+    /// # Examples
+    ///
+    /// ```
+    /// let mut graph: DiGraph<u32, u32> = DiGraph::new(rt.alloc());
+    /// let sow = graph.add_node(1)?;
+    /// graph.add_edge(sow, sow, 90)?;
+    /// graph.add_edge(sow, sow, 1)?;
+    /// let long = graph.filter_map(
+    ///     |_, n| Some(*n),
+    ///     |_, days| if *days > 7 { Some(*days) } else { None },
+    /// )?;
+    /// assert!(rt; long.node_count() == 1 && long.edge_count() == 1);
+    /// ```
     pub fn filter_map<
         N2: Drop,
         E2: Drop,
@@ -203,8 +217,8 @@ impl<N, E, Ix: IndexType> DiGraph<N, E, Ix> {
         Ok(graph)
     }
 
-    /// The result of [`filter_map`](DiGraph::filter_map), and for each node of this graph its new
-    /// index, if it was kept.
+    /// The same as [`filter_map`](DiGraph::filter_map), but also returns the new index of each node
+    /// of this graph, if it was kept.
     #[doc(hidden)]
     pub fn filter_map_named<
         N2: Drop,

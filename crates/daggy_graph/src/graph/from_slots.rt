@@ -1,4 +1,4 @@
-//! Making a graph of given slots.
+//! Building a graph from explicit slots.
 ghost use Rattle.std.specs.Prelude.{◌≡◌, ◌≤◌, [], map, length, vec_capacity, IfOk};
 ghost use Rattle.std.specs.Option.{option_map};
 ghost use Rattle.daggy_base.specs.Graph.{IsCompact};
@@ -68,7 +68,7 @@ fn make_edges<N, E: Drop, Ix: IndexType>(
 }
 
 impl<N, E, Ix: IndexType> DiGraph<N, E, Ix> {
-    /// Builds a graph from explicit slots, none of them vacant. An edge slot has the parent, the
+    /// Builds a graph from explicit slots, none of them vacant. An edge slot holds the parent, the
     /// child and the weight.
     ///
     /// Each list is in descending index order.
@@ -86,6 +86,17 @@ impl<N, E, Ix: IndexType> DiGraph<N, E, Ix> {
     /// # Complexity
     ///
     /// O(nodes + edges).
+    ///
+    /// # Examples
+    ///
+    /// ```
+    /// let sow = NodeIndex::new(0);
+    /// let reap = NodeIndex::new(1);
+    /// let nodes = Vec::from_array(rt.alloc(), [Some("sow"), Some("reap")])?;
+    /// let edges = Vec::from_array(rt.alloc(), [Some((sow, reap, 90))])?;
+    /// let graph: DiGraph<&'static str, u32> = DiGraph::from_slots(rt.alloc(), nodes, edges)?;
+    /// assert!(rt; graph.contains_edge(sow, reap));
+    /// ```
     pub fn from_slots(
         alloc: Global,
         nodes: Vec<Option<N>>,

@@ -22,6 +22,16 @@ use std::marker::Model;
 
 /// The weights of the nodes, in ascending index order. Returned by
 /// [`node_weights`](crate::graph::DiGraph::node_weights).
+///
+/// # Examples
+///
+/// ```
+/// let mut graph: DiGraph<u32, ()> = DiGraph::new(rt.alloc());
+/// graph.add_node(2)?;
+/// graph.add_node(3)?;
+/// let weights: Vec<_> = graph.node_weights().copied().collect(rt.alloc())?;
+/// assert!(rt; weights.as_slice() == [2, 3].as_slice());
+/// ```
 #[derive(Drop)]
 pub struct NodeWeights<'a, N, Ix: IndexType = DefaultIx> {
     nodes: &'a [Node<N, Ix>],
@@ -94,6 +104,17 @@ impl<'a, N, Ix: IndexType> fmt::Debug for NodeWeights<'a, N, Ix> {
 
 /// The weights of the edges, in ascending index order. Returned by
 /// [`edge_weights`](crate::graph::DiGraph::edge_weights).
+///
+/// # Examples
+///
+/// ```
+/// let mut graph: DiGraph<&'static str, u32> = DiGraph::new(rt.alloc());
+/// let sow = graph.add_node("sow")?;
+/// graph.add_edge(sow, sow, 90)?;
+/// graph.add_edge(sow, sow, 30)?;
+/// let weights: Vec<_> = graph.edge_weights().copied().collect(rt.alloc())?;
+/// assert!(rt; weights.as_slice() == [90, 30].as_slice());
+/// ```
 #[derive(Drop)]
 pub struct EdgeWeights<'a, E, Ix: IndexType = DefaultIx> {
     edges: &'a [Edge<E, Ix>],
@@ -166,6 +187,22 @@ impl<'a, E, Ix: IndexType> fmt::Debug for EdgeWeights<'a, E, Ix> {
 
 /// The indices of the nodes, in ascending order. It does not borrow the graph. Returned by
 /// [`node_identifiers`](crate::graph::DiGraph::node_identifiers).
+///
+/// # Examples
+///
+/// ```
+/// let mut graph: DiGraph<u32, ()> = DiGraph::new(rt.alloc());
+/// let one = graph.add_node(1)?;
+/// let two = graph.add_node(2)?;
+/// // The graph may change during the loop.
+/// for n in graph.node_identifiers() {
+///     if let Some(weight) = graph.node_weight_mut(n) {
+///         *weight *= 10;
+///     }
+/// }
+/// assert!(rt; graph.node_weight(one) == Some(&10));
+/// assert!(rt; graph.node_weight(two) == Some(&20));
+/// ```
 #[derive(Drop)]
 pub struct NodeIdentifiers<Ix: IndexType = DefaultIx> {
     next: Link<Ix>,
@@ -251,6 +288,18 @@ impl<Ix: IndexType> fmt::Debug for NodeIdentifiers<Ix> {
 
 /// The nodes in ascending index order, each with its weight. Returned by
 /// [`node_references`](crate::graph::DiGraph::node_references).
+///
+/// # Examples
+///
+/// ```
+/// let mut graph: DiGraph<u32, ()> = DiGraph::new(rt.alloc());
+/// let one = graph.add_node(1)?;
+/// let two = graph.add_node(2)?;
+/// let mut nodes = graph.node_references();
+/// assert!(rt; nodes.next() == Some((one, &1)));
+/// assert!(rt; nodes.next() == Some((two, &2)));
+/// assert!(rt; nodes.next().is_none());
+/// ```
 #[derive(Drop)]
 pub struct NodeReferences<'a, N, Ix: IndexType = DefaultIx> {
     nodes: &'a [Node<N, Ix>],
@@ -347,6 +396,17 @@ pub(super) fn reference<'a, E, Ix: IndexType>(
 
 /// The edges, in ascending index order. Returned by
 /// [`edge_references`](crate::graph::DiGraph::edge_references).
+///
+/// # Examples
+///
+/// ```
+/// let mut graph: DiGraph<&'static str, u32> = DiGraph::new(rt.alloc());
+/// let sow = graph.add_node("sow")?;
+/// let reap = graph.add_node("reap")?;
+/// let days = graph.add_edge(sow, reap, 90)?;
+/// let edge = graph.edge_references().next();
+/// assert!(rt; edge.is_some_and(|edge| edge.id() == days && edge.weight() == &90));
+/// ```
 #[derive(Drop)]
 pub struct EdgeReferences<'a, E, Ix: IndexType = DefaultIx> {
     edges: &'a [Edge<E, Ix>],
@@ -437,6 +497,17 @@ impl<'a, E, Ix: IndexType> fmt::Debug for EdgeReferences<'a, E, Ix> {
 
 /// The indices of the edges, in ascending order. It does not borrow the graph. Returned by
 /// [`edge_identifiers`](crate::graph::DiGraph::edge_identifiers).
+///
+/// # Examples
+///
+/// ```
+/// let mut graph: DiGraph<&'static str, u32> = DiGraph::new(rt.alloc());
+/// let sow = graph.add_node("sow")?;
+/// let days = graph.add_edge(sow, sow, 90)?;
+/// let mut edges = graph.edge_identifiers();
+/// assert!(rt; edges.next() == Some(days));
+/// assert!(rt; edges.next().is_none());
+/// ```
 #[derive(Drop)]
 pub struct EdgeIdentifiers<Ix: IndexType = DefaultIx> {
     next: Link<Ix>,

@@ -17,6 +17,20 @@ use std::marker::Model;
 /// The edges of one list of a node, in the order of the list. Returned by
 /// [`edges`](crate::graph::DiGraph::edges) and
 /// [`edges_directed`](crate::graph::DiGraph::edges_directed).
+///
+/// # Examples
+///
+/// ```
+/// let mut graph: DiGraph<&'static str, u32> = DiGraph::new(rt.alloc());
+/// let sow = graph.add_node("sow")?;
+/// let reap = graph.add_node("reap")?;
+/// let days = graph.add_edge(sow, reap, 90)?;
+/// let more = graph.add_edge(sow, reap, 30)?;
+/// // The newest edge comes first.
+/// let mut edges = graph.edges_directed(reap, Direction::Incoming);
+/// assert!(rt; edges.next().is_some_and(|edge| edge.id() == more));
+/// assert!(rt; edges.next().is_some_and(|edge| edge.id() == days));
+/// ```
 #[derive(Drop)]
 pub struct Edges<'a, E, Ix: IndexType = DefaultIx> {
     edges: &'a [Edge<E, Ix>],
@@ -81,6 +95,19 @@ impl<'a, E, Ix: IndexType> fmt::Debug for Edges<'a, E, Ix> {
 /// The neighbors of a node in one direction, one for each edge, in the order of its list. Returned
 /// by [`neighbors`](crate::graph::DiGraph::neighbors) and
 /// [`neighbors_directed`](crate::graph::DiGraph::neighbors_directed).
+///
+/// # Examples
+///
+/// ```
+/// let mut graph: DiGraph<&'static str, ()> = DiGraph::new(rt.alloc());
+/// let sow = graph.add_node("sow")?;
+/// let hoe = graph.add_node("hoe")?;
+/// let reap = graph.add_node("reap")?;
+/// graph.add_edge(sow, hoe, ())?;
+/// graph.add_edge(sow, reap, ())?;
+/// let children: Vec<_> = graph.neighbors(sow).collect(rt.alloc())?;
+/// assert!(rt; children.as_slice() == [reap, hoe].as_slice());
+/// ```
 #[derive(Drop)]
 pub struct Neighbors<'a, E, Ix: IndexType = DefaultIx> {
     edges: Edges<'a, E, Ix>,
@@ -142,8 +169,8 @@ impl<N, E, Ix: IndexType> DiGraph<N, E, Ix> {
         self.edges_directed(n, Direction::Outgoing)
     }
 
-    /// The edges that leave a node, or those that enter it, newest first. Empty if the node does
-    /// not exist.
+    /// The edges that leave a node (`Outgoing`), or the edges that enter it (`Incoming`), newest
+    /// first. Empty if the node does not exist.
     #[inline]
     pub fn edges_directed(&self, n: NodeIndex<Ix>, dir: Direction) -> Edges<'_, E, Ix>
         ensures rest { result ≡ edges_at dir self.now.graph (Ix.number n) }
@@ -167,8 +194,9 @@ impl<N, E, Ix: IndexType> DiGraph<N, E, Ix> {
         self.neighbors_directed(n, Direction::Outgoing)
     }
 
-    /// The children of a node, one for each edge that leaves it, or its parents, one for each edge
-    /// that enters it, newest first. Empty if the node does not exist.
+    /// The children of a node (`Outgoing`), one for each edge that leaves it, or its parents
+    /// (`Incoming`), one for each edge that enters it, newest first. Empty if the node does not
+    /// exist.
     #[inline]
     pub fn neighbors_directed(&self, n: NodeIndex<Ix>, dir: Direction) -> Neighbors<'_, E, Ix>
         ensures rest { result ≡ neighbors_at dir self.now.graph (Ix.number n) }

@@ -1,4 +1,4 @@
-//! The same graph with other weights.
+//! Mapping the weights of a graph.
 ghost use Rattle.std.specs.Prelude.{◌≡◌, ◌≤◌, [], map, length, vec_capacity, IfOk};
 ghost use Rattle.daggy_base.specs.declared.index.Direction.{Direction};
 ghost use Rattle.daggy_base.specs.Mapping.{MapsSlots, IsMapped, weight_in, with_weight};
@@ -70,6 +70,16 @@ impl<N, E, Ix: IndexType> DiGraph<N, E, Ix> {
     /// # Complexity
     ///
     /// O(nodes + edges), plus the calls.
+    ///
+    /// # Examples
+    ///
+    /// ```
+    /// let mut graph: DiGraph<u32, u32> = DiGraph::new(rt.alloc());
+    /// let sow = graph.add_node(1)?;
+    /// let days = graph.add_edge(sow, sow, 90)?;
+    /// let weeks = graph.map(|_, n| *n, |_, days| *days / 7)?;
+    /// assert!(rt; weeks.edge_weight(days) == Some(&12));
+    /// ```
     pub fn map<
         N2: Drop,
         E2: Drop,

@@ -22,7 +22,21 @@ impl<N, E, Ix: IndexType> DiGraph<N, E, Ix> {
     ///
     /// # Complexity
     ///
-    /// O(edges in the lists of this edge and of the one with the last index). Does not allocate.
+    /// O(edges in the lists of this edge and in the lists of the edge with the last index). Does
+    /// not allocate.
+    ///
+    /// # Examples
+    ///
+    /// ```
+    /// let mut graph: DiGraph<&'static str, u32> = DiGraph::new(rt.alloc());
+    /// let sow = graph.add_node("sow")?;
+    /// let days = graph.add_edge(sow, sow, 90)?;
+    /// let more = graph.add_edge(sow, sow, 30)?;
+    /// assert!(rt; graph.remove_edge(days) == Some(90));
+    /// // The last edge has its index now.
+    /// assert!(rt; graph.edge_weight(days) == Some(&30));
+    /// assert!(rt; graph.edge_weight(more).is_none());
+    /// ```
     #[inline]
     pub fn remove_edge(&mut self, e: EdgeIndex<Ix>) -> Option<E>
         ensures value { result ≡ option_map (λ x. x.weight) (edge_at self.old.graph (Ix.number e)) }
@@ -41,14 +55,27 @@ impl<N, E, Ix: IndexType> DiGraph<N, E, Ix> {
 
     /// Removes a node with its edges and returns its weight, if the node exists.
     ///
-    /// First the edges out of it are removed, each time the first of the list, and then those into
-    /// it. Each removal moves the last edge into the freed index. Finally the node with the last
-    /// index is moved into the freed index.
+    /// First the edges that leave it are removed, each time the first one of the list, and then the
+    /// edges that enter it. Each removal moves the last edge into the freed index. Finally the node
+    /// with the last index is moved into the freed index.
     ///
     /// # Complexity
     ///
     /// The sum of the costs of removing its edges by `remove_edge`, plus O(edges of the node with
     /// the last index). Does not allocate.
+    ///
+    /// # Examples
+    ///
+    /// ```
+    /// let mut graph: DiGraph<&'static str, u32> = DiGraph::new(rt.alloc());
+    /// let sow = graph.add_node("sow")?;
+    /// let reap = graph.add_node("reap")?;
+    /// let days = graph.add_edge(sow, reap, 90)?;
+    /// assert!(rt; graph.remove_node(sow) == Some("sow"));
+    /// // The last node has its index now.
+    /// assert!(rt; graph.node_weight(sow) == Some(&"reap"));
+    /// assert!(rt; !graph.contains_node(reap) && graph.edge_weight(days).is_none());
+    /// ```
     pub fn remove_node(&mut self, n: NodeIndex<Ix>) -> Option<N>
     where
         E: Drop,
@@ -127,6 +154,18 @@ impl<N, E, Ix: IndexType> DiGraph<N, E, Ix> {
     /// # Complexity
     ///
     /// O(nodes + edges).
+    ///
+    /// # Examples
+    ///
+    /// ```
+    /// let mut graph: DiGraph<&'static str, u32> = DiGraph::new(rt.alloc());
+    /// let sow = graph.add_node("sow")?;
+    /// graph.add_edge(sow, sow, 365)?;
+    /// graph.clear_edges();
+    /// assert!(rt; graph.node_count() == 1 && graph.edge_count() == 0);
+    /// graph.clear();
+    /// assert!(rt; graph.node_count() == 0);
+    /// ```
     pub fn clear_edges(&mut self)
     where
         E: Drop,

@@ -39,6 +39,16 @@ impl<N, E, Ix: IndexType> DiGraph<N, E, Ix> {
     /// # Complexity
     ///
     /// O(edges), plus the calls.
+    ///
+    /// # Examples
+    ///
+    /// ```
+    /// let mut graph: DiGraph<&'static str, u32> = DiGraph::new(rt.alloc());
+    /// let sow = graph.add_node("sow")?;
+    /// let days = graph.add_edge(sow, sow, 90)?;
+    /// graph.update_edge_weights(|_, weight| *weight = 30);
+    /// assert!(rt; graph.edge_weight(days) == Some(&30));
+    /// ```
     pub fn update_edge_weights<F: FnMut(EdgeIndex<Ix>, &mut E)>(&mut self, f: F)
         requires { CanLendEdges Ix.of F.pre F.step f self.old.graph }
         ensures written { RewritesEdges Ix.of F.step f self.old.graph self.new.graph }

@@ -26,6 +26,19 @@ impl<N, E, Ix: IndexType> DiGraph<N, E, Ix> {
     /// # Complexity
     ///
     /// O(1), plus the call.
+    ///
+    /// # Examples
+    ///
+    /// ```
+    /// let mut graph: DiGraph<u32, ()> = DiGraph::new(rt.alloc());
+    /// let from = graph.add_node(10)?;
+    /// let to = graph.add_node(1)?;
+    /// if from != to {
+    ///     graph.update_two_nodes(from, to, |a, b| std::mem::swap(a, b));
+    /// }
+    /// assert!(rt; graph.node_weight(from) == Some(&1));
+    /// assert!(rt; graph.node_weight(to) == Some(&10));
+    /// ```
     #[inline]
     pub fn update_two_nodes<R, F: FnOnce(&mut N, &mut N) -> R>(
         &mut self,
@@ -69,6 +82,19 @@ impl<N, E, Ix: IndexType> DiGraph<N, E, Ix> {
     /// # Complexity
     ///
     /// O(1), plus the call.
+    ///
+    /// # Examples
+    ///
+    /// ```
+    /// let mut graph: DiGraph<&'static str, u32> = DiGraph::new(rt.alloc());
+    /// let sow = graph.add_node("sow")?;
+    /// let days = graph.add_edge(sow, sow, 90)?;
+    /// let more = graph.add_edge(sow, sow, 30)?;
+    /// if days != more {
+    ///     graph.update_two_edges(days, more, |a, b| std::mem::swap(a, b));
+    /// }
+    /// assert!(rt; graph.edge_weight(days) == Some(&30));
+    /// ```
     #[inline]
     pub fn update_two_edges<R, F: FnOnce(&mut E, &mut E) -> R>(
         &mut self,
@@ -112,6 +138,16 @@ impl<N, E, Ix: IndexType> DiGraph<N, E, Ix> {
     /// # Complexity
     ///
     /// O(1), plus the call.
+    ///
+    /// # Examples
+    ///
+    /// ```
+    /// let mut graph: DiGraph<u32, u32> = DiGraph::new(rt.alloc());
+    /// let sow = graph.add_node(1)?;
+    /// let days = graph.add_edge(sow, sow, 90)?;
+    /// graph.update_node_and_edge(sow, days, |weight, days| *weight = *days);
+    /// assert!(rt; graph.node_weight(sow) == Some(&90));
+    /// ```
     #[inline]
     pub fn update_node_and_edge<R, F: FnOnce(&mut N, &mut E) -> R>(
         &mut self,

@@ -37,6 +37,17 @@ impl<N, E, Ix: IndexType> DiGraph<N, E, Ix> {
     }
 
     /// A mutable reference to the weight of a node, if the node exists.
+    ///
+    /// # Examples
+    ///
+    /// ```
+    /// let mut graph: DiGraph<u32, ()> = DiGraph::new(rt.alloc());
+    /// let n = graph.add_node(1)?;
+    /// if let Some(weight) = graph.node_weight_mut(n) {
+    ///     *weight = 7;
+    /// }
+    /// assert!(rt; graph.node_weight(n) == Some(&7));
+    /// ```
     #[inline]
     pub fn node_weight_mut(&mut self, n: NodeIndex<Ix>) -> Option<&mut N>
         ensures* writes_back { sem 𝓛

@@ -1,4 +1,4 @@
-//! Changes of a whole dag by names.
+//! Changes to the whole dag, and `add_node`.
 ghost use Rattle.std.specs.Prelude.{◌≡◌, ◌≤◌, ◌↔◌, ◌⊎◌, [], Some, None, Err, IsSome, IfOk, OnOk};
 ghost use Rattle.std.specs.Prelude.{IfErr, OnErr};
 ghost use Rattle.daggy_base.specs.Adding.{next_node, with_node, with_slot_filled};
@@ -18,8 +18,9 @@ use std::alloc::AllocError;
 use std::hash::Hash;
 
 impl<K: Eq + Hash + Drop, N: Drop, E: Drop, Ix: IndexType> Named<K, N, E, Ix> {
-    /// Removes all redundant edges: those whose parent reaches their child by another path of two or
-    /// more edges. Which nodes depend on which, directly or through others, is unchanged.
+    /// Removes all redundant edges: an edge is redundant if its parent reaches its child by another
+    /// path of two or more edges. Which nodes depend on which, directly or through others, is
+    /// unchanged.
     ///
     /// # Errors
     ///
@@ -59,6 +60,15 @@ impl<K: Eq + Hash + Drop, N: Drop, E: Drop, Ix: IndexType> Named<K, N, E, Ix> {
     /// # Complexity
     ///
     /// O(slots).
+    ///
+    /// # Examples
+    ///
+    /// ```
+    /// let mut plan: Named<&'static str, u32, ()> = Named::new(rt.alloc());
+    /// plan.add_node("sow", 1)?;
+    /// plan.clear();
+    /// assert!(rt; plan.is_empty());
+    /// ```
     pub fn clear(&mut self)
         ensures { self.new ≡ record { graph = empty; keys = [] } }
     {
@@ -72,6 +82,15 @@ impl<K: Eq + Hash + Drop, N: Drop, E: Drop, Ix: IndexType> Named<K, N, E, Ix> {
     /// # Complexity
     ///
     /// O(nodes): the keys are dropped.
+    ///
+    /// # Examples
+    ///
+    /// ```
+    /// let mut plan: Named<&'static str, u32, ()> = Named::new(rt.alloc());
+    /// let sow = plan.add_node("sow", 1)?;
+    /// let mut dag = plan.into_dag();
+    /// assert!(rt; dag.remove_node(sow) == Some(1));
+    /// ```
     pub fn into_dag(self) -> StableDag<N, E, Ix>
         ensures { result.graph ≡ self.graph }
     {

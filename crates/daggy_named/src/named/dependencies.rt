@@ -1,4 +1,4 @@
-//! Dependencies by the keys of their ends.
+//! Dependencies between nodes that are given by their keys.
 ghost use Rattle.std.specs.Prelude.{◌≡◌, ℕ, ◌<◌, ◌≤◌, ◌↔◌, ◌⊎◌, None, Err, IsSome, IfOk, IfErr};
 ghost use Rattle.std.specs.Prelude.{OnErr, IfSome, IfNone};
 ghost use Rattle.daggy_base.specs.Adding.{next_edge, with_edge};
@@ -19,17 +19,27 @@ use std::hash::Hash;
 
 /// Which node depends on which, by their keys.
 ///
-/// Its fields are named where one is made, so that the two keys cannot be confused.
+/// Its fields are named when you make one, so you cannot confuse the two keys.
+///
+/// # Examples
+///
+/// ```
+/// let mut plan: Named<&'static str, u32, ()> = Named::new(rt.alloc());
+/// let sow = plan.add_node("sow", 1)?;
+/// let reap = plan.add_node("reap", 2)?;
+/// plan.add_dependency(Dependency { dependent: "reap", on: "sow" }, ())?;
+/// assert!(rt; plan.dag().contains_edge(sow, reap));
+/// ```
 #[derive(Clone, Copy, Debug)]
 pub struct Dependency<Q> {
     /// The key of the node that depends on the other: the child of the edge.
     pub dependent: Q,
-    /// The key of the node that it depends on: the parent of the edge.
+    /// The key of the node that the other depends on: the parent of the edge.
     pub on: Q,
 }
 
 impl<K: Eq + Hash + Drop, N: Drop, E: Drop, Ix: IndexType> Named<K, N, E, Ix> {
-    /// Adds a dependency: an edge from the node with the key `on` to the one with the key
+    /// Adds a dependency: an edge from the node with the key `on` to the node with the key
     /// `dependent`. Returns the index of the edge.
     ///
     /// The same as [`depend`](Named::depend), but the call shows which key is which.

@@ -65,8 +65,8 @@ impl<'a, K: Eq + Hash, N: Drop, E: Drop, Ix: IndexType> fmt::Debug for Keys<'a, 
     }
 }
 
-/// The keys of the nodes on which a node depends directly, or of those that depend on it, one for
-/// each edge, newest first.
+/// The keys of the nodes that a node depends on directly, or of the nodes that depend on it
+/// directly, one for each edge, newest first.
 #[derive(Drop)]
 pub struct NeighborKeys<'a, K: Eq + Hash, N: Drop, E: Drop, Ix: IndexType = DefaultIx> {
     named: &'a Named<K, N, E, Ix>,
@@ -119,6 +119,16 @@ impl<K: Eq + Hash + Drop, N: Drop, E: Drop, Ix: IndexType> Named<K, N, E, Ix> {
     /// # Complexity
     ///
     /// O(slots) for the whole iteration, occupied or vacant.
+    ///
+    /// # Examples
+    ///
+    /// ```
+    /// let mut plan: Named<&'static str, u32, ()> = Named::new(rt.alloc());
+    /// plan.add_node("sow", 1)?;
+    /// plan.add_node("reap", 2)?;
+    /// let keys: Vec<_> = plan.keys().collect(rt.alloc())?;
+    /// assert!(rt; keys.as_slice() == [&"sow", &"reap"].as_slice());
+    /// ```
     pub fn keys(&self) -> Keys<'_, K, N, E, Ix>
         ensures rest { result ≡ map (key_at self.now.keys) (node_identifiers self.now.graph) }
         ensures fits { length result < 2 ^ 64 }
@@ -131,7 +141,7 @@ impl<K: Eq + Hash + Drop, N: Drop, E: Drop, Ix: IndexType> Named<K, N, E, Ix> {
         }
     }
 
-    /// The keys of the nodes on which the node with this key depends directly: its parents, one for
+    /// The keys of the nodes that the node with this key depends on directly: its parents, one for
     /// each edge, newest first. `None` if there is no such node.
     ///
     /// # Complexity
@@ -164,6 +174,17 @@ impl<K: Eq + Hash + Drop, N: Drop, E: Drop, Ix: IndexType> Named<K, N, E, Ix> {
     /// # Complexity
     ///
     /// One hash lookup, plus O(children) for the whole iteration.
+    ///
+    /// # Examples
+    ///
+    /// ```
+    /// let mut plan: Named<&'static str, u32, ()> = Named::new(rt.alloc());
+    /// plan.add_node("sow", 1)?;
+    /// plan.add_node("reap", 2)?;
+    /// plan.add_dependency(Dependency { dependent: "reap", on: "sow" }, ())?;
+    /// let later = plan.dependents("sow").and_then(|mut keys| keys.next());
+    /// assert!(rt; later == Some(&"reap"));
+    /// ```
     pub fn dependents<Q: Equivalent<K>>(&self, key: Q) -> Option<NeighborKeys<'_, K, N, E, Ix>>
         ensures rest { IfSome result (λ rest. ForNode (Q.equivalent key) self.now.keys (λ n.
             rest ≡ map (key_at self.now.keys) (neighbors_at Outgoing self.now.graph n))) }

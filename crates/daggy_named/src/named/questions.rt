@@ -1,4 +1,4 @@
-//! What depends on a node and what it depends on, by keys.
+//! Queries about dependencies, by keys.
 ghost use Rattle.std.specs.Prelude.{◌≡◌, ◌↔◌, [], ◌∷◌, IsTrue, Ok, Some, None, map, IfOk, IfSome};
 ghost use Rattle.std.specs.Prelude.{IfNone};
 ghost use Rattle.std.specs.List.{All};
@@ -40,8 +40,8 @@ impl<K: Eq + Hash + Drop, N: Drop, E: Drop, Ix: IndexType> Named<K, N, E, Ix> {
         Ok(nodes)
     }
 
-    /// Whether a path leads from the node with the key `a` to the node with the key `b`, so that
-    /// `b` is `a` or depends on it. `false` if there is no such node.
+    /// Whether a path leads from the node with the key `a` to the node with the key `b`, that is,
+    /// whether `b` is `a` or depends on it. `false` if there is no such node.
     ///
     /// # Errors
     ///
@@ -49,8 +49,8 @@ impl<K: Eq + Hash + Drop, N: Drop, E: Drop, Ix: IndexType> Named<K, N, E, Ix> {
     ///
     /// # Complexity
     ///
-    /// O(nodes), plus a search. For many questions, use
-    /// [`paths`](daggy_dag::acyclic::Acyclic::paths) of [`dag`](Named::dag).
+    /// O(nodes), plus a search. For many queries, use [`paths`](daggy_dag::acyclic::Acyclic::paths)
+    /// of [`dag`](Named::dag).
     ///
     /// # Examples
     ///
@@ -119,8 +119,8 @@ impl<K: Eq + Hash + Drop, N: Drop, E: Drop, Ix: IndexType> Named<K, N, E, Ix> {
         Ok(Some(self.keys_of(nodes.as_slice())?))
     }
 
-    /// The keys of all nodes that depend on the node with this key, directly or through others, each
-    /// once and after what it depends on. `None` if there is no such node.
+    /// The keys of all nodes that depend on the node with this key, directly or through others,
+    /// each once and after the nodes that it depends on. `None` if there is no such node.
     ///
     /// # Errors
     ///
@@ -161,8 +161,8 @@ impl<K: Eq + Hash + Drop, N: Drop, E: Drop, Ix: IndexType> Named<K, N, E, Ix> {
         Ok(Some(self.keys_of(nodes.as_slice())?))
     }
 
-    /// The keys of all nodes on which the node with this key depends, directly or through others,
-    /// each once and after what it depends on. `None` if there is no such node.
+    /// The keys of all nodes that the node with this key depends on, directly or through others,
+    /// each once and after the nodes that it depends on. `None` if there is no such node.
     ///
     /// # Errors
     ///

@@ -14,9 +14,8 @@ use daggy_base::source::EdgeSource;
 use daggy_search::Scratch;
 
 /// Updates a topological order for a new edge from `a` to `b`, as in incremental topological
-/// ordering (Pearce and Kelly 2006), but with a search from `b` alone, and none against the edges
-/// from `a`: it moves nodes so that `a` precedes `b`. Returns false if the edge would close a
-/// cycle.
+/// ordering (Pearce and Kelly 2006): it moves nodes so that `a` precedes `b`. It searches only
+/// forward from `b`, not backward from `a`. Returns false if the edge would close a cycle.
 ///
 /// # Requires
 ///
@@ -80,8 +79,8 @@ pub fn order_edge<Ix: IndexType, S: EdgeSource<Ix>>(
     order_edge_counted(source, order, a, b, scratch).is_some()
 }
 
-/// As [`order_edge`], and returns how many edges it read. Returns `None` if the edge would close a
-/// cycle.
+/// The same as [`order_edge`], but returns how many edges it read, or `None` if the edge would
+/// close a cycle.
 pub fn order_edge_counted<Ix: IndexType, S: EdgeSource<Ix>>(
     source: &mut S,
     order: &mut Order<Ix>,

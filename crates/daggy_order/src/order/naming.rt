@@ -8,8 +8,8 @@ use daggy_base::index::{IndexType, NodeIndex};
 use daggy_base::link::Link;
 
 impl<Ix: IndexType> Order<Ix> {
-    /// Renames each node to its new index in `names`, and removes the nodes without one. The order
-    /// of the rest does not change.
+    /// Renames each node to its new index in `names`, and removes the nodes without one. The others
+    /// stay in the same order.
     ///
     /// # Requires
     ///

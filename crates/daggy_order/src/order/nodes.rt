@@ -11,8 +11,20 @@ use std::fmt;
 use std::iter::{DoubleEndedIterator, ExactSizeIterator, FusedIterator};
 use std::marker::Model;
 
-/// The nodes of an order, from the first to the last. Can be read from both ends. Returned by
+/// A double-ended iterator over the nodes of an order, from the first to the last. Returned by
 /// [`nodes`](Order::nodes).
+///
+/// # Examples
+///
+/// ```
+/// let mut order: Order = Order::new(rt.alloc());
+/// let sow = NodeIndex::new(0);
+/// let reap = NodeIndex::new(1);
+/// order.push(sow)?;
+/// order.push(reap)?;
+/// let back: Vec<_> = order.nodes().rev().collect(rt.alloc())?;
+/// assert!(rt; back.as_slice() == [reap, sow].as_slice());
+/// ```
 #[derive(Drop)]
 pub struct Nodes<'a, Ix: IndexType = DefaultIx> {
     list: &'a LabeledList<Ix>,

@@ -86,7 +86,8 @@ fn note_parents<Ix: IndexType, S: EdgeSource<Ix>>(
     }
 }
 
-// As `path_in`, by a list of all nodes in topological order in which `from` precedes `to`.
+// The same as `path_in`, with a list of all nodes in topological order in which `from` precedes
+// `to`.
 fn path_before<Ix: IndexType, S: EdgeSource<Ix>>(
     alloc: Global,
     source: &mut S,

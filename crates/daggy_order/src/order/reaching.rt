@@ -10,9 +10,9 @@ use daggy_base::index::{IndexType, NodeIndex};
 use daggy_base::source::EdgeSource;
 use daggy_search::Scratch;
 
-/// Whether a path leads from `a` to `b`, as [`reaches`](daggy_search::reaches) finds it, but only
-/// nodes between the two in `order` are searched. Use it instead of `reaches` where such an order
-/// is at hand.
+/// Whether a path leads from `a` to `b`, as [`reaches`](daggy_search::reaches) returns it, but only
+/// nodes between the two in `order` are searched. Use it instead of `reaches` if you have such an
+/// order.
 ///
 /// # Requires
 ///
@@ -25,6 +25,21 @@ use daggy_search::Scratch;
 ///
 /// O(1) if `b` precedes `a`. Otherwise it searches the nodes reachable from `a` that precede `b`.
 /// Does not allocate.
+///
+/// # Examples
+///
+/// ```
+/// let mut graph: DiGraph<&'static str, ()> = DiGraph::new(rt.alloc());
+/// let sow = graph.add_node("sow")?;
+/// let reap = graph.add_node("reap")?;
+/// graph.add_edge(sow, reap, ())?;
+/// let mut scratch = Scratch::new(rt.alloc());
+/// scratch.reserve(graph.node_count(), 0)?;
+/// if let Some(mut order) = Order::sorted(rt.alloc(), &mut graph, &mut scratch)? {
+///     assert!(rt; reaches_in(&mut graph, &mut order, sow, reap, &mut scratch));
+///     assert!(rt; !reaches_in(&mut graph, &mut order, reap, sow, &mut scratch));
+/// }
+/// ```
 pub fn reaches_in<Ix: IndexType, S: EdgeSource<Ix>>(
     source: &mut S,
     order: &mut Order<Ix>,

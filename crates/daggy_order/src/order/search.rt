@@ -20,7 +20,7 @@ use daggy_search::Worklist;
 // searches wait for memory, and these waits overlap if the next nodes are known early.
 const LARGE: usize = 1024;
 
-// Once in this many turns, the first waiting node is read.
+// Once in this many steps, the first waiting node is read.
 const TURNS: usize = 16;
 
 // Whether the last node that waits is read next, and not the first.
@@ -32,8 +32,8 @@ fn is_last_next(count: usize, turn: usize) -> bool
 }
 
 // Adds `node` to the `count` nodes found, of which those from `head` up to `tail` wait. It becomes
-// the last that waits. If the search is not large and the one before it has a greater label, the two
-// change places.
+// the last waiting node. If the search is not large and the one before it has a greater label, the
+// two change places.
 #[inline]
 fn put_waiting<Ix: IndexType>(
     work: &mut Worklist<Ix>,
@@ -79,8 +79,8 @@ pub(crate) struct Found {
 // (the label of `to`). Returns `None` if `to` is reachable. Each parent's label must be lower than
 // its children's.
 //
-// Of the nodes that wait it mostly reads the last, which has a great label, so that it comes near
-// `to` soon. In one turn of 16 it reads the first, so that a long path does not hide a short one.
+// Of the waiting nodes it mostly reads the last, which has a great label, so that it comes near
+// `to` soon. In one step of 16 it reads the first, so that a long path does not hide a short one.
 pub(crate) fn reaches_below<Ix: IndexType, S: EdgeSource<Ix>>(
     source: &mut S,
     from: NodeIndex<Ix>,
@@ -160,8 +160,8 @@ pub(crate) fn reaches_below<Ix: IndexType, S: EdgeSource<Ix>>(
     }
 }
 
-// As `reaches_below`, by a list of all nodes in topological order in which `from` precedes `to`:
-// collects the nodes reachable from `from` that precede `to`.
+// The same as `reaches_below`, with a list of all nodes in topological order in which `from`
+// precedes `to`: collects the nodes reachable from `from` that precede `to`.
 pub(crate) fn reaches_before<Ix: IndexType, S: EdgeSource<Ix>>(
     source: &mut S,
     from: NodeIndex<Ix>,

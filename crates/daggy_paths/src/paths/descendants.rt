@@ -16,8 +16,9 @@ use daggy_visit::visit::AdjMatrix;
 use std::alloc::AllocError;
 
 impl<'d, Ix: IndexType, S: ReadStore<Ix>> Paths<'d, Ix, S> {
-    /// Returns `nodes` and their descendants, each once and parents before children. After `nodes`
-    /// changed, these are to be recomputed in this order. Nodes that do not exist are ignored.
+    /// Returns `nodes` and their descendants, each once and parents before children. If `nodes`
+    /// have changed, these are the nodes to recompute, in this order. Nodes that do not exist are
+    /// ignored.
     ///
     /// # Errors
     ///
@@ -26,6 +27,17 @@ impl<'d, Ix: IndexType, S: ReadStore<Ix>> Paths<'d, Ix, S> {
     /// # Complexity
     ///
     /// O(k log k + edges) for k nodes found and the edges that leave them.
+    ///
+    /// # Examples
+    ///
+    /// ```
+    /// let mut dag: Dag<&'static str, ()> = Dag::new(rt.alloc());
+    /// let sow = dag.add_node("sow")?;
+    /// let (_, hoe) = dag.add_child(sow, (), "hoe")?;
+    /// let (_, reap) = dag.add_child(hoe, (), "reap")?;
+    /// let mut paths = dag.paths()?;
+    /// assert!(rt; paths.affected(&[hoe])?.as_slice() == [hoe, reap].as_slice());
+    /// ```
     pub fn affected(&mut self, nodes: &[NodeIndex<Ix>]) -> Result<Vec<NodeIndex<Ix>>, AllocError>
         ensures found { IfOk result (λ found. IsOrderOfPart self.old.graph
             (IsBelow self.old.graph (map Ix.number nodes.now)) (map Ix.number found.items)) }
@@ -121,6 +133,18 @@ impl<'d, Ix: IndexType, S: ReadStore<Ix>> Paths<'d, Ix, S> {
     /// # Complexity
     ///
     /// Reads each edge once, and takes O(node bound / 64) for each.
+    ///
+    /// # Examples
+    ///
+    /// ```
+    /// let mut dag: Dag<&'static str, ()> = Dag::new(rt.alloc());
+    /// let sow = dag.add_node("sow")?;
+    /// let (_, hoe) = dag.add_child(sow, (), "hoe")?;
+    /// let (_, reap) = dag.add_child(hoe, (), "reap")?;
+    /// let closure = dag.paths()?.transitive_closure()?;
+    /// assert!(rt; closure.has(sow, reap));
+    /// assert!(rt; !closure.has(sow, sow));
+    /// ```
     pub fn transitive_closure(&mut self) -> Result<AdjMatrix<Ix>, AllocError>
         ensures closure { IfOk result (λ matrix. (a b : ℕ)
             → HasPair matrix a b ↔ IsDescendantOf self.old.graph a b) }

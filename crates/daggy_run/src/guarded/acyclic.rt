@@ -1,4 +1,4 @@
-//! Both kinds of dag as dags that take commands.
+//! `GuardedDag` for both kinds of dag.
 ghost use Rattle.std.specs.Prelude.{◌≡◌, ℕ, ◌<◌, ◌≤◌, ◌^◌, ◌↔◌, ◌⊎◌, IsTrue, Err, None, IfOk};
 ghost use Rattle.std.specs.Prelude.{IfErr, OnOk, OnErr, OnSome, IfSome, IfNone, IsOkAnd, length};
 ghost use Rattle.std.specs.Prelude.{map};

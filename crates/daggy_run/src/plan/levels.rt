@@ -1,4 +1,4 @@
-//! The levels of the nodes of a dag.
+//! The level of each node of a dag.
 ghost use Rattle.std.specs.Prelude.{◌≡◌, ℕ, ◌+◌, ◌<◌, ◌^◌, ◌∷◌, List, IfOk, slice_index, vec_len};
 ghost use Rattle.daggy_base.specs.Graph.{HasNode, node_bound as node_bound_of};
 ghost use Rattle.daggy_base.specs.Path.{AreJoined};

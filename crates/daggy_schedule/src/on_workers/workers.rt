@@ -1,4 +1,4 @@
-//! Workers that do nodes, as time goes on.
+//! The workers and the nodes they process, over time.
 ghost use Rattle.std.specs.Prelude.{◌≡◌, ◌∷◌, ℕ, ◌<◌, ◌≤◌, [], length, replicate, true, false, Ok, Err, IfOk};
 ghost use Rattle.std.specs.Prelude.{OnOk, Contains, MatchOption, vec_len, slice_set};
 ghost use Rattle.std.specs.List.{AllByRecursion};
@@ -13,7 +13,7 @@ use daggy_base::index::{IndexType, NodeIndex};
 use std::alloc::{AllocError, Global};
 use std::marker::Model;
 
-// Which nodes wait and which are being done, and who is free.
+// Which nodes wait, which are in progress, and which workers are free.
 #[derive(Drop)]
 pub(super) struct Workers<Ix: IndexType> {
     // With their latest starts.
@@ -42,7 +42,7 @@ impl<Ix: IndexType> Model for Workers<Ix> {
 }
 
 impl<Ix: IndexType> Workers<Ix> {
-    // Nobody does anything yet. The lists are `bound` long.
+    // All workers are free. The lists are `bound` long.
     pub fn new(alloc: Global, bound: usize) -> Result<Self, AllocError>
         ensures { IfOk result (λ s. s ≡ record {
           waiting = [];
@@ -67,14 +67,15 @@ impl<Ix: IndexType> Workers<Ix> {
         })
     }
 
-    // Lets a node wait, with the time by which it should start.
+    // Adds a waiting node, with the time by which it should start.
     pub fn add(&mut self, latest: u64, n: NodeIndex<Ix>) -> Result<(), AllocError>
         ensures { OnOk result (Waits (latest, Ix.number n) self.old self.new) }
     {
         self.waiting.add(latest, n)
     }
 
-    // Lets a worker begin the node that waits and should start first. Returns whether one did.
+    // Lets a free worker start the waiting node that should start first. Returns whether a node was
+    // started.
     pub fn begin_next(&mut self, durations: &[u64], count: usize) -> Result<bool, ScheduleError>
         requires starts { (n : ℕ) → Contains (nodes_of self.old.waiting) n
             → n < length self.old.starts }
@@ -110,7 +111,7 @@ impl<Ix: IndexType> Workers<Ix> {
         Ok(true)
     }
 
-    // Lets the node finish that does so next. Its worker is free then.
+    // Finishes the node in progress that finishes next, and frees its worker.
     pub fn finish_next(&mut self) -> Result<Option<NodeIndex<Ix>>, AllocError>
         requires { (n : ℕ) → Contains (nodes_of self.old.running) n → n < length self.old.workers }
         ensures { IfOk result (λ r. MatchOption r
@@ -126,7 +127,7 @@ impl<Ix: IndexType> Workers<Ix> {
         Ok(Some(n))
     }
 
-    // When each node started and by whom it was done, with the durations.
+    // When each node started and which worker processed it, with the durations.
     pub fn into_assignment(self, durations: Vec<u64>) -> Assignment
         ensures durations { result.durations ≡ durations }
         ensures starts { result.starts.items ≡ self.starts }
@@ -142,7 +143,7 @@ impl<Ix: IndexType> Workers<Ix> {
     }
 }
 
-// Notes when a node starts, and by whom it is done.
+// Records when a node starts, and which worker processes it.
 fn note(starts: &mut Vec<u64>, workers: &mut Vec<usize>, i: usize, now: u64, worker: usize)
     requires starts { i < vec_len starts.old }
     requires workers { i < vec_len workers.old }
@@ -153,7 +154,7 @@ fn note(starts: &mut Vec<u64>, workers: &mut Vec<usize>, i: usize, now: u64, wor
     workers[i] = worker;
 }
 
-// A worker that does nothing: one that was freed, or else the next one.
+// A free worker: one that was freed, or else the next one.
 fn idle_worker(free: &mut Vec<usize>, busy: usize) -> usize
     ensures { IsIdleWorker busy free.old.items free.new.items result }
 {

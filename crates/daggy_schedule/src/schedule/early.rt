@@ -22,14 +22,14 @@ use std::alloc::{AllocError, Global};
 pub(super) struct Early<Ix: IndexType> {
     pub starts: Vec<u64>,
     pub finishes: Vec<u64>,
-    // By node index, the parent that finishes last, of several the lowest, if there is any.
+    // By node index, the parent that finishes last, if there is any; ties go to the lowest index.
     pub parents: Vec<Link<Ix>>,
     pub makespan: u64,
     pub last: NodeIndex<Ix>,
 }
 
-// Whether a node goes before another in what is noted: it finishes later, or at the same time and has
-// the lower index. All go before `end` at time 0.
+// Whether a node is recorded in preference to another: it finishes later, or at the same time and
+// has the lower index. Every node is preferred to `end` at time 0.
 fn goes_before<Ix: IndexType>(
     finish: u64,
     n: NodeIndex<Ix>,
@@ -41,8 +41,8 @@ fn goes_before<Ix: IndexType>(
     time < finish || (time == finish && n.index() < other.index())
 }
 
-// Lets a node start no earlier than its parent `n` finishes, and notes `n` if it goes before the
-// parent that was noted.
+// Delays a node until its parent `n` finishes, and records `n` if it is preferred to the parent
+// that was recorded.
 fn delay<Ix: IndexType>(
     starts: &mut Vec<u64>,
     parents: &mut Vec<Link<Ix>>,
@@ -66,8 +66,8 @@ fn delay<Ix: IndexType>(
     }
 }
 
-// Lets the children of a node start no earlier than it finishes, and notes it for each whose noted
-// parent it goes before.
+// Delays the children of a node until it finishes, and records it for each child whose recorded
+// parent it is preferred to.
 fn delay_children<Ix: IndexType, S: ReadStore<Ix>>(
     store: &S,
     n: NodeIndex<Ix>,
@@ -94,7 +94,7 @@ fn delay_children<Ix: IndexType, S: ReadStore<Ix>>(
     }
 }
 
-// The later of two times with its node, the lower of the two nodes if the times are equal.
+// The later of two times, with its node; the lower of the two nodes if the times are equal.
 fn later_of<Ix: IndexType>(
     makespan: u64,
     last: NodeIndex<Ix>,
@@ -113,7 +113,7 @@ fn later_of<Ix: IndexType>(
     }
 }
 
-// Lets each node start as early as it can, along the order.
+// Computes the earliest start of each node, along the order.
 pub(super) fn earliest<N: Drop, E: Drop, Ix: IndexType, S>(
     alloc: Global,
     dag: &Acyclic<N, E, Ix, S>,
@@ -167,8 +167,8 @@ where
     })
 }
 
-// The path that ends with a node and goes back by the noted parents, as far as there are any. It
-// goes back along the order, so it ends.
+// The path that ends with a node and follows the recorded parents back, as far as there are any. It
+// follows the order backwards, so it ends.
 pub(super) fn path_back<N: Drop, E: Drop, Ix: IndexType, S>(
     alloc: Global,
     dag: &Acyclic<N, E, Ix, S>,

@@ -12,7 +12,7 @@ use daggy_base::read_store::ReadStore;
 use daggy_dag::acyclic::Acyclic;
 use std::alloc::{AllocError, Global};
 
-// The latest time at which a node can finish, by the latest starts of its children.
+// The latest time at which a node can finish, from the latest starts of its children.
 fn latest_finish<Ix: IndexType, S: ReadStore<Ix>>(
     store: &S,
     n: NodeIndex<Ix>,
@@ -59,7 +59,7 @@ where
     Ok(order)
 }
 
-// How much later each node can start, against the order.
+// Computes how much later each node can start, against the order.
 pub(super) fn slack_of<N: Drop, E: Drop, Ix: IndexType, S>(
     alloc: Global,
     dag: &Acyclic<N, E, Ix, S>,

@@ -29,6 +29,18 @@ impl<N: Drop, E: Drop, Ix: IndexType> StableDiGraph<N, E, Ix> {
     /// # Complexity
     ///
     /// Amortized O(1).
+    ///
+    /// # Examples
+    ///
+    /// ```
+    /// let mut graph: StableDiGraph<&'static str, u32> = StableDiGraph::new(rt.alloc());
+    /// let sow = graph.add_node("sow")?;
+    /// let reap = graph.add_node("reap")?;
+    /// assert!(rt; graph.remove_node(sow) == Some("sow"));
+    /// // The vacant slot is reused.
+    /// assert!(rt; graph.add_node("mow") == Ok(sow));
+    /// assert!(rt; graph.node_weight(reap) == Some(&"reap"));
+    /// ```
     #[inline]
     pub fn add_node(&mut self, weight: N) -> Result<NodeIndex<Ix>, NodeError<N>>
         requires { node_count_of self.old.graph < Ix.greatest }

@@ -47,6 +47,20 @@ impl<N, E, Ix: IndexType> StableDiGraph<N, E, Ix> {
     /// # Complexity
     ///
     /// O(vacant slots after that node).
+    ///
+    /// # Examples
+    ///
+    /// ```
+    /// let mut graph: StableDiGraph<u32, ()> = StableDiGraph::new(rt.alloc());
+    /// graph.add_node(1)?;
+    /// let two = graph.add_node(2)?;
+    /// let three = graph.add_node(3)?;
+    /// assert!(rt; graph.remove_node(two) == Some(2));
+    /// assert!(rt; graph.node_bound() == 3);
+    /// assert!(rt; graph.remove_node(three) == Some(3));
+    /// // Both slots are vacant.
+    /// assert!(rt; graph.node_bound() == 1 && graph.node_slots() == 3);
+    /// ```
     pub fn node_bound(&self) -> usize
         ensures { result ≡ node_bound_of self.now.graph }
     {

@@ -1,4 +1,4 @@
-//! The part of a graph that closures keep, under the same indices.
+//! The subgraph that closures keep, with the same indices.
 ghost use Rattle.std.specs.Prelude.{◌≡◌, ◌≤◌, [], map, length, vec_capacity, is_some};
 ghost use Rattle.std.specs.Prelude.{option_copied, IfOk};
 ghost use Rattle.std.specs.Option.{option_map};
@@ -116,7 +116,7 @@ fn filter_edges<N, E, W, Ix: IndexType, G: FnMut(EdgeIndex<Ix>, &E) -> Option<W>
 }
 
 impl<N, E, Ix: IndexType> StableDiGraph<N, E, Ix> {
-    /// A graph of the nodes and edges for which the closures return a weight, under the same
+    /// A graph of the nodes and edges for which the closures return a weight, with the same
     /// indices: `f` is called with each node in ascending index order, and then `g` with each edge
     /// whose endpoints were both kept.
     ///

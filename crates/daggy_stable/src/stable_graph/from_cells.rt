@@ -1,4 +1,4 @@
-//! Making a graph of slots that were filled elsewhere.
+//! Making a graph of slots that are filled already.
 ghost use Rattle.std.specs.Prelude.{◌≡◌};
 ghost use Rattle.daggy_base.specs.Graph.{Graph};
 ghost use Rattle.daggy_stable.specs.Held.{HoldsGraph};
@@ -10,11 +10,11 @@ use daggy_base::looks::Looks;
 use daggy_cells::cell::{Edge, Node};
 
 impl<N, E, Ix: IndexType> StableDiGraph<N, E, Ix> {
-    /// The graph in these slots, none of which is vacant.
+    /// Makes a graph of these slots, none of which is vacant.
     ///
     /// # Requires
     ///
-    /// - The slots hold a graph: the links between them are those of its lists.
+    /// - The slots hold a graph: their links form its lists.
     ///
     /// # Complexity
     ///

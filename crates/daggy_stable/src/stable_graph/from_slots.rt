@@ -1,4 +1,4 @@
-//! Making a graph of given slots.
+//! Building a graph from explicit slots.
 ghost use Rattle.std.specs.Prelude.{◌≡◌, ◌≤◌, [], map, length, vec_capacity, IfOk};
 ghost use Rattle.std.specs.Option.{option_map};
 ghost use Rattle.daggy_base.specs.FromSlots.{graph_of_slots, edge_of, edges_by, MakeGraph};
@@ -63,7 +63,7 @@ fn make_edges<N, E: Drop, Ix: IndexType>(
 }
 
 impl<N, E, Ix: IndexType> StableDiGraph<N, E, Ix> {
-    /// Builds a graph from explicit slots; `None` leaves a slot vacant. An edge slot has the
+    /// Builds a graph from explicit slots; `None` leaves a slot vacant. An edge slot holds the
     /// parent, the child and the weight.
     ///
     /// Each list is in descending index order, and the highest vacant slot is reused first.
@@ -80,6 +80,18 @@ impl<N, E, Ix: IndexType> StableDiGraph<N, E, Ix> {
     /// # Complexity
     ///
     /// O(slots).
+    ///
+    /// # Examples
+    ///
+    /// ```
+    /// let sow = NodeIndex::new(0);
+    /// let reap = NodeIndex::new(2);
+    /// let nodes = Vec::from_array(rt.alloc(), [Some("sow"), None, Some("reap")])?;
+    /// let edges = Vec::from_array(rt.alloc(), [Some((sow, reap, 90))])?;
+    /// let graph: StableDiGraph<&'static str, u32> =
+    ///     StableDiGraph::from_slots(rt.alloc(), nodes, edges)?;
+    /// assert!(rt; graph.node_count() == 2 && graph.node_slots() == 3);
+    /// ```
     pub fn from_slots(
         alloc: Global,
         nodes: Vec<Option<N>>,

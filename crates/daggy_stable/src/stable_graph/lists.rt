@@ -144,8 +144,8 @@ impl<N, E, Ix: IndexType> StableDiGraph<N, E, Ix> {
         self.edges_directed(n, Direction::Outgoing)
     }
 
-    /// The edges that leave a node, or those that enter it, newest first. Empty if the node does
-    /// not exist.
+    /// The edges that leave a node (`Outgoing`), or the edges that enter it (`Incoming`), newest
+    /// first. Empty if the node does not exist.
     #[inline]
     pub fn edges_directed(&self, n: NodeIndex<Ix>, dir: Direction) -> Edges<'_, E, Ix>
         ensures rest { result ≡ edges_at dir self.now.graph (Ix.number n) }
@@ -169,8 +169,9 @@ impl<N, E, Ix: IndexType> StableDiGraph<N, E, Ix> {
         self.neighbors_directed(n, Direction::Outgoing)
     }
 
-    /// The children of a node, one for each edge that leaves it, or its parents, one for each edge
-    /// that enters it, newest first. Empty if the node does not exist.
+    /// The children of a node (`Outgoing`), one for each edge that leaves it, or its parents
+    /// (`Incoming`), one for each edge that enters it, newest first. Empty if the node does not
+    /// exist.
     #[inline]
     pub fn neighbors_directed(&self, n: NodeIndex<Ix>, dir: Direction) -> Neighbors<'_, E, Ix>
         ensures rest { result ≡ neighbors_at dir self.now.graph (Ix.number n) }

@@ -93,6 +93,16 @@ impl<N, E, Ix: IndexType> StableDiGraph<N, E, Ix> {
     /// # Requires
     ///
     /// - `e` is an edge of the graph. Test: `contains_edge_index(e)`.
+    ///
+    /// # Examples
+    ///
+    /// ```
+    /// let mut graph: StableDiGraph<&'static str, u32> = StableDiGraph::new(rt.alloc());
+    /// let sow = graph.add_node("sow")?;
+    /// let days = graph.add_edge(sow, sow, 90)?;
+    /// assert!(rt; graph.replace_edge_weight(days, 80) == 90);
+    /// assert!(rt; graph.edge_weight(days) == Some(&80));
+    /// ```
     #[inline]
     pub fn replace_edge_weight(&mut self, e: EdgeIndex<Ix>, weight: E) -> E
         requires { HasEdge self.old.graph (Ix.number e) }

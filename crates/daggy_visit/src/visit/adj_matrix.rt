@@ -87,7 +87,8 @@ impl<Ix: IndexType> AdjMatrix<Ix> {
         })
     }
 
-    /// Adds the pair of `a` and `b`, in this order. Nothing changes if the matrix has it.
+    /// Adds the pair of `a` and `b`, in this order. Nothing changes if the matrix contains it
+    /// already.
     ///
     /// # Requires
     ///
@@ -115,6 +116,19 @@ impl<Ix: IndexType> AdjMatrix<Ix> {
     /// # Complexity
     ///
     /// O(bound / 64).
+    ///
+    /// # Examples
+    ///
+    /// ```
+    /// let mut pairs: AdjMatrix<u32> = AdjMatrix::new(rt.alloc(), 8)?;
+    /// let sow = NodeIndex::new(0);
+    /// let hoe = NodeIndex::new(1);
+    /// let reap = NodeIndex::new(2);
+    /// pairs.join(hoe, reap);
+    /// // What `hoe` is paired with, `sow` is paired with too.
+    /// pairs.join_row(sow, hoe);
+    /// assert!(rt; pairs.has(sow, reap));
+    /// ```
     pub fn join_row(&mut self, a: NodeIndex<Ix>, b: NodeIndex<Ix>)
         requires source { Ix.number a < length self.old }
         requires target { Ix.number b < length self.old }
@@ -129,7 +143,8 @@ impl<Ix: IndexType> AdjMatrix<Ix> {
         }
     }
 
-    /// Whether the matrix has a pair; false if an index is past its bound.
+    /// Whether the matrix contains the pair of `a` and `b`; false if an index is not below the
+    /// bound.
     #[inline]
     pub fn has(&self, a: NodeIndex<Ix>, b: NodeIndex<Ix>) -> bool
         ensures { IsTrue result ↔ HasPair self.now (Ix.number a) (Ix.number b) }

@@ -8,6 +8,14 @@ ghost use Rattle.daggy_base.specs.Weights.{edge_weight as edge_weight_at, with_n
 ghost use Rattle.daggy_base.specs.Weights.{with_edge_weight};
 
 /// The types that identify the nodes and the edges of a graph.
+///
+/// # Examples
+///
+/// ```
+/// let mut dag: Dag<&'static str, u32> = Dag::new(rt.alloc());
+/// let sow: <Dag<&'static str, u32> as GraphBase>::NodeId = dag.add_node("sow")?;
+/// assert!(rt; sow == NodeIndex::new(0));
+/// ```
 pub trait GraphBase {
     /// The type that identifies a node.
     type NodeId: Copy;
@@ -22,6 +30,15 @@ pub trait GraphBase {
 
 /// The types of the weights of a graph. `Dag` and `StableDag` implement it, and also [`DataMap`]
 /// and [`DataMapMut`]; the stores do not.
+///
+/// # Examples
+///
+/// ```
+/// let weight: <Dag<u32, ()> as Data>::NodeWeight = 7;
+/// let mut dag: Dag<u32, ()> = Dag::new(rt.alloc());
+/// let sow = dag.add_node(weight)?;
+/// assert!(rt; dag.node_weight(sow) == Some(&7));
+/// ```
 pub trait Data: GraphBase {
     /// The weight of a node.
     type NodeWeight;
@@ -32,7 +49,18 @@ pub trait Data: GraphBase {
     ghost graph: { Self → Graph Self.NodeWeight Self.EdgeWeight };
 }
 
-/// A graph that knows how many nodes it has.
+/// A graph that can count its nodes.
+///
+/// # Examples
+///
+/// ```
+/// fn is_empty<G: NodeCount>(graph: &G) -> bool {
+///     graph.node_count() == 0
+/// }
+///
+/// let dag: Dag<(), ()> = Dag::new(rt.alloc());
+/// assert!(rt; is_empty(&dag));
+/// ```
 pub trait NodeCount: Data {
     /// How many nodes there are.
     fn node_count(&self) -> usize
@@ -44,6 +72,17 @@ pub trait NodeCount: Data {
 pub enum Directed {}
 
 /// A graph that says whether its edges have a direction.
+///
+/// # Examples
+///
+/// ```
+/// fn has_directions<G: GraphProp<EdgeType = Directed>>(graph: &G) -> bool {
+///     graph.is_directed()
+/// }
+///
+/// let dag: Dag<(), ()> = Dag::new(rt.alloc());
+/// assert!(rt; has_directions(&dag));
+/// ```
 pub trait GraphProp: GraphBase {
     /// [`Directed`], if edges have a direction.
     type EdgeType;
@@ -59,6 +98,18 @@ pub trait GraphProp: GraphBase {
 /// A graph whose weights can be read by index: generic code over `G: DataMap` calls
 /// [`node_weight`](DataMap::node_weight) and [`edge_weight`](DataMap::edge_weight) of any such
 /// graph.
+///
+/// # Examples
+///
+/// ```
+/// fn weight_of<G: DataMap>(graph: &G, n: G::NodeId) -> Option<&G::NodeWeight> {
+///     graph.node_weight(n)
+/// }
+///
+/// let mut dag: Dag<&'static str, u32> = Dag::new(rt.alloc());
+/// let sow = dag.add_node("sow")?;
+/// assert!(rt; weight_of(&dag, sow) == Some(&"sow"));
+/// ```
 pub trait DataMap: Data {
     /// The weight of a node, or `None` if there is no such node.
     fn node_weight(&self, id: Self::NodeId) -> Option<&Self::NodeWeight>
@@ -71,6 +122,21 @@ pub trait DataMap: Data {
 }
 
 /// A graph whose weights can also be written, through mutable references.
+///
+/// # Examples
+///
+/// ```
+/// fn clear_weight<G: DataMapMut<NodeWeight = u32>>(graph: &mut G, n: G::NodeId) {
+///     if let Some(weight) = graph.node_weight_mut(n) {
+///         *weight = 0;
+///     }
+/// }
+///
+/// let mut dag: Dag<u32, ()> = Dag::new(rt.alloc());
+/// let sow = dag.add_node(7)?;
+/// clear_weight(&mut dag, sow);
+/// assert!(rt; dag.node_weight(sow) == Some(&0));
+/// ```
 pub trait DataMapMut: DataMap {
     // What the graph ends as, once the weight of a node was written, or that of an edge.
     ghost node_written: { Self → Self.NodeId → Self.NodeWeight → Self };

@@ -4,7 +4,21 @@ ghost use Rattle.daggy_base.specs.Graph.{node_bound as node_bound_of};
 
 use crate::visit::{Data, NodeCount};
 
-/// A graph whose nodes have numbers below a bound, so that a list can hold something for each node.
+/// A graph whose nodes have numbers below a bound, so that a list can have an entry for each node.
+///
+/// # Examples
+///
+/// ```
+/// fn number_of<G: NodeIndexable>(graph: &G, n: G::NodeId) -> usize {
+///     graph.to_index(n)
+/// }
+///
+/// let mut dag: StableDag<&'static str, ()> = StableDag::new(rt.alloc());
+/// dag.add_node("sow")?;
+/// let reap = dag.add_node("reap")?;
+/// assert!(rt; number_of(&dag, reap) == 1);
+/// assert!(rt; dag.from_index(1) == reap);
+/// ```
 pub trait NodeIndexable: Data {
     // The greatest number that a node can be named by.
     ghost greatest: { ℕ };
@@ -22,7 +36,7 @@ pub trait NodeIndexable: Data {
     fn to_index(&self, id: Self::NodeId) -> usize
         ensures { result ≡ Self.node_number id };
 
-    /// The node of a number, which need not exist.
+    /// The node with this number, which need not exist.
     ///
     /// # Requires
     ///
@@ -33,4 +47,18 @@ pub trait NodeIndexable: Data {
 }
 
 /// A graph whose nodes are numbered from 0 to their count.
+///
+/// # Examples
+///
+/// ```
+/// // The numbers of the nodes.
+/// fn numbers<G: NodeCompactIndexable>(graph: &G) -> std::ops::Range<usize> {
+///     0..graph.node_count()
+/// }
+///
+/// let mut dag: Dag<&'static str, ()> = Dag::new(rt.alloc());
+/// dag.add_node("sow")?;
+/// dag.add_node("reap")?;
+/// assert!(rt; numbers(&dag).len() == 2);
+/// ```
 pub trait NodeCompactIndexable: NodeIndexable + NodeCount {}

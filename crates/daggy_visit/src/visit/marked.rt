@@ -8,14 +8,27 @@ ghost use Rattle.daggy_visit.specs.Visit.{IsVisited, HasPair};
 use crate::visit::Data;
 use std::alloc::AllocError;
 
-/// A set of what a search has visited. Its members are of type `N`.
+/// The set of nodes, or of anything else of type `N`, that a search has visited.
+///
+/// # Examples
+///
+/// ```
+/// fn was_seen<M: VisitMap<NodeIndex>>(seen: &M, n: NodeIndex) -> bool {
+///     seen.is_visited(&n)
+/// }
+///
+/// let mut seen: NodeSet<u32> = NodeSet::new(rt.alloc(), 8)?;
+/// let sow = NodeIndex::new(3);
+/// assert!(rt; !was_seen(&seen, sow));
+/// assert!(rt; seen.visit(sow) && was_seen(&seen, sow));
+/// ```
 pub trait VisitMap<N> {
     // The set, by number, and the number of a member.
     ghost visited: { Self → List Bool };
 
     ghost number: { N → ℕ };
 
-    /// Adds a member, and returns whether it was new.
+    /// Adds `a` to the set, and returns whether it was new.
     ///
     /// # Requires
     ///
@@ -27,12 +40,25 @@ pub trait VisitMap<N> {
             ↔ ((m ≡ number a) ⊎ IsVisited (visited self.old) m) }
         ensures bound { length (visited self.new) ≡ length (visited self.old) };
 
-    /// Whether the set has a member.
+    /// Whether the set contains `a`.
     fn is_visited(&self, a: &N) -> bool
         ensures { IsTrue result ↔ IsVisited (visited self.now) (number a.now) };
 }
 
-/// A graph that makes sets of its nodes, for searches that mark what they have visited.
+/// A graph that can make sets of its nodes, for searches that mark the nodes they have visited.
+///
+/// # Examples
+///
+/// ```
+/// let mut dag: Dag<&'static str, ()> = Dag::new(rt.alloc());
+/// let sow = dag.add_node("sow")?;
+/// let mut seen = dag.visit_map()?;
+/// assert!(rt; seen.visit(sow));
+/// // Now it fits the new node too.
+/// let reap = dag.add_node("reap")?;
+/// dag.reset_map(&mut seen)?;
+/// assert!(rt; seen.visit(reap) && !seen.is_visited(sow));
+/// ```
 pub trait Visitable: Data {
     /// A set of nodes.
     type Map: VisitMap<Self::NodeId>;
@@ -71,6 +97,17 @@ pub trait Visitable: Data {
 }
 
 /// A graph that can make its adjacency matrix.
+///
+/// # Examples
+///
+/// ```
+/// let mut dag: Dag<&'static str, ()> = Dag::new(rt.alloc());
+/// let sow = dag.add_node("sow")?;
+/// let (_, reap) = dag.add_child(sow, (), "reap")?;
+/// let matrix = dag.adjacency_matrix()?;
+/// assert!(rt; dag.is_adjacent(&matrix, sow, reap));
+/// assert!(rt; !dag.is_adjacent(&matrix, reap, sow));
+/// ```
 pub trait GetAdjacencyMatrix: Data {
     /// The type of the matrix.
     type AdjMatrix;

@@ -67,6 +67,16 @@ impl<Ix: IndexType> NodeSet<Ix> {
     /// # Complexity
     ///
     /// O(bound / 64).
+    ///
+    /// # Examples
+    ///
+    /// ```
+    /// let mut seen: NodeSet<u32> = NodeSet::new(rt.alloc(), 8)?;
+    /// assert!(rt; seen.visit(NodeIndex::new(3)));
+    /// seen.reset(100)?;
+    /// assert!(rt; !seen.is_visited(NodeIndex::new(3)));
+    /// assert!(rt; seen.visit(NodeIndex::new(99)));
+    /// ```
     pub fn reset(&mut self, bound: usize) -> Result<(), AllocError>
         ensures bound { OnOk result (length self.new ≡ bound) }
         ensures empty { OnOk result ((n : ℕ) → ¬ IsVisited self.new n) }
@@ -92,7 +102,7 @@ impl<Ix: IndexType> NodeSet<Ix> {
         self.bits.set(n.index())
     }
 
-    /// Whether the set has a node; false past its bound.
+    /// Whether the set contains a node; false if its index is not below the bound.
     #[inline]
     pub fn is_visited(&self, n: NodeIndex<Ix>) -> bool
         ensures { IsTrue result ↔ IsVisited self.now (Ix.number n) }

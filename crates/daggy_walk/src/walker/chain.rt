@@ -30,7 +30,7 @@ pub struct Chain<G, A, B> {
 }
 
 impl<G, A, B> Chain<G, A, B> {
-    /// The walk of `a` and then that of `b`.
+    /// The walk of `a`, followed by the walk of `b`.
     #[inline]
     pub fn new(a: A, b: B) -> Self
         ensures first { chain_first result ≡ Some a }

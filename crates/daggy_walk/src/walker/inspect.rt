@@ -1,10 +1,26 @@
-//! A walk that is looked at.
+//! A walk whose items are shown to a function.
 ghost use Rattle.std.specs.Prelude.{◌≡◌};
 ghost use Rattle.daggy_walk.specs.Parts.{inspect_walker, inspect_function};
 
 use crate::walker::{FiniteWalker, FusedWalker, Walker};
 
 /// A walk that shows each item to a function before it yields it.
+///
+/// # Examples
+///
+/// ```
+/// let mut dag: Dag<u32, u32> = Dag::new(rt.alloc());
+/// let sow = dag.add_node(1)?;
+/// let (days, _reap) = dag.add_child(sow, 90, 2)?;
+///
+/// let mut newest = None;
+/// let mut walk = Inspect::new(
+///     dag.children(sow),
+///     |_: &Dag<u32, u32>, step: &(EdgeIndex, NodeIndex)| newest = Some(step.0),
+/// );
+/// assert!(rt; walk.walk_next(&dag).is_some());
+/// assert!(rt; newest == Some(days));
+/// ```
 #[derive(Clone, Copy, Debug, Drop)]
 pub struct Inspect<W, F> {
     walker: W,

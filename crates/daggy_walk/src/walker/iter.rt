@@ -9,6 +9,18 @@ use std::iter::FusedIterator;
 ///
 /// Like the walker itself, this iterator may yield items again after `None`, unless the walker is a
 /// [`FusedWalker`](crate::walker::FusedWalker).
+///
+/// # Examples
+///
+/// ```
+/// let mut dag: Dag<&'static str, ()> = Dag::new(rt.alloc());
+/// let sow = dag.add_node("sow")?;
+/// let (_, hoe) = dag.add_child(sow, (), "hoe")?;
+/// let (_, reap) = dag.add_child(sow, (), "reap")?;
+/// let steps: Vec<_> = dag.children(sow).iter(&dag).collect(rt.alloc())?;
+/// assert!(rt; steps.iter().any(|step| step.1 == hoe));
+/// assert!(rt; steps.first().is_some_and(|step| step.1 == reap));
+/// ```
 #[derive(Drop)]
 #[derive_where(Clone, Copy, Debug; W)]
 pub struct WalkerIter<'a, G, W> {

@@ -1,4 +1,4 @@
-//! A look at what comes next, apart from its type, whose row its clause names.
+//! `peek`, in a module apart from the type, because its clause names the row of the type.
 ghost use Rattle.std.specs.Prelude.{◌≡◌, ⊤, option_copied};
 ghost use Rattle.std.specs.Borrow.{sem, follows_so};
 ghost use mathlib.Core.Option.{none};
@@ -13,10 +13,10 @@ impl<G, W: Walker<G>> Ahead<G, W, W::Item>
 where
     W::Item: Drop,
 {
-    /// The item of the next step. The walk that it wraps takes the step now, and the item is held
-    /// until then.
+    /// The item of the next step. The walk that it wraps takes that step now, and the item is held
+    /// until the next step.
     ///
-    /// If the walk yields nothing, nothing is held, and the next step asks again.
+    /// If the walk yields nothing, nothing is held, and the next step tries again.
     ///
     /// # Requires
     ///

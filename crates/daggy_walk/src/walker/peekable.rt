@@ -1,4 +1,4 @@
-//! A walk with a look ahead.
+//! A walk whose next item can be peeked at.
 ghost use Rattle.std.specs.Prelude.{◌≡◌, None};
 ghost use Rattle.daggy_walk.specs.Parts.{peekable_walker, peekable_held};
 

@@ -7,11 +7,28 @@ use crate::walker::Walker;
 use daggy_visit::visit::GraphBase;
 use std::marker::PhantomData;
 
-/// A walk in which a closure chooses each next node.
+/// A walk in which a closure chooses the next node in each step.
 ///
 /// If the closure returns `None`, the walk yields `None` and stays at its node; the next step calls
 /// the closure again. It may never end, so it is not a
 /// [`FiniteWalker`](crate::walker::FiniteWalker).
+///
+/// # Examples
+///
+/// ```
+/// let mut dag: Dag<u32, ()> = Dag::new(rt.alloc());
+/// let sow = dag.add_node(1)?;
+/// let (_, hoe) = dag.add_child(sow, (), 2)?;
+/// let (_, reap) = dag.add_child(hoe, (), 3)?;
+///
+/// // Up to a node without parents.
+/// let mut walk = Recursive::new(reap, |dag: &Dag<u32, ()>, n| {
+///     dag.parents(n).walk_next(dag)
+/// });
+/// assert!(rt; walk.next(&dag).is_some_and(|step| step.1 == hoe));
+/// assert!(rt; walk.next(&dag).is_some_and(|step| step.1 == sow));
+/// assert!(rt; walk.next(&dag).is_none());
+/// ```
 pub type Recursive<G, F> = Led<G, <G as GraphBase>::NodeId, F>;
 
 /// The type behind [`Recursive`], spelled out because an alias cannot have methods: write

@@ -7,7 +7,7 @@ use std::marker::PhantomData;
 
 /// A walk without its first items, which are skipped in the first step.
 ///
-/// So the first step takes O(skipped steps), even if the walk ends before.
+/// So the first step takes O(skipped steps), even if the walk ends earlier.
 ///
 /// # Examples
 ///

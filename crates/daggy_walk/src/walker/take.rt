@@ -5,7 +5,7 @@ ghost use Rattle.daggy_walk.specs.Parts.{take_walker, take_count};
 use crate::walker::{FiniteWalker, FusedWalker, Walker};
 use std::marker::PhantomData;
 
-/// The first steps of a walk. After that it yields nothing, and its walker is not asked any more.
+/// The first steps of a walk. After them it yields nothing, and its walker takes no more steps.
 ///
 /// Steps that yield nothing count too.
 ///

@@ -36,6 +36,16 @@ impl<N: Drop, E: Drop, Ix: IndexType> Acyclic<N, E, Ix, DiGraph<N, E, Ix>> {
     /// # Complexity
     ///
     /// O(1), plus the allocations. The memory for searches is initialised by the first search.
+    ///
+    /// # Examples
+    ///
+    /// ```
+    /// let mut dag: Dag<&'static str, u32> = Dag::with_capacity(rt.alloc(), 2, 1)?;
+    /// // None of these allocates.
+    /// let sow = dag.add_node("sow")?;
+    /// let (days, _) = dag.add_child(sow, 90, "reap")?;
+    /// assert!(rt; dag.edge_weight(days) == Some(&90));
+    /// ```
     pub fn with_capacity(alloc: Global, nodes: usize, edges: usize) -> Result<Self, AllocError>
         ensures value { IfOk result (λ d. d ≡ record { graph = empty; looks = 0 }) }
         ensures nodes_fit { OnOk result (nodes < 2 ^ 63) }
@@ -49,8 +59,7 @@ impl<N: Drop, E: Drop, Ix: IndexType> Acyclic<N, E, Ix, DiGraph<N, E, Ix>> {
         Ok(Acyclic::from_parts(store, order, scratch))
     }
 
-    /// A dag with the same nodes and edges under the same indices, and in the same lists, with a
-    /// clone of each weight.
+    /// A dag with the same indices and lists, and with a clone of each weight.
     ///
     /// # Errors
     ///
@@ -59,6 +68,17 @@ impl<N: Drop, E: Drop, Ix: IndexType> Acyclic<N, E, Ix, DiGraph<N, E, Ix>> {
     /// # Complexity
     ///
     /// O(nodes + edges).
+    ///
+    /// # Examples
+    ///
+    /// ```
+    /// let mut dag: Dag<u32, u32> = Dag::new(rt.alloc());
+    /// let sow = dag.add_node(1)?;
+    /// let (days, _) = dag.add_child(sow, 90, 2)?;
+    /// let copy = dag.try_clone()?;
+    /// assert!(rt; dag.remove_edge(days) == Some(90));
+    /// assert!(rt; copy.edge_weight(days) == Some(&90));
+    /// ```
     pub fn try_clone(&self) -> Result<Self, AllocError>
     where
         N: Clone,
@@ -87,6 +107,18 @@ impl<N: Drop, E: Drop, Ix: IndexType> Acyclic<N, E, Ix, DiGraph<N, E, Ix>> {
     /// # Complexity
     ///
     /// O(nodes) if a buffer has to be moved, and O(1) otherwise.
+    ///
+    /// # Examples
+    ///
+    /// ```
+    /// let mut dag: Dag<u32, u32> = Dag::new(rt.alloc());
+    /// dag.reserve_nodes(100)?;
+    /// dag.reserve_edges(300)?;
+    /// let n = dag.add_node(1)?;
+    /// // The rest of the memory is not needed.
+    /// dag.shrink_to_fit()?;
+    /// assert!(rt; dag.node_weight(n) == Some(&1));
+    /// ```
     pub fn reserve_nodes(&mut self, additional: usize) -> Result<(), AllocError>
         ensures same { self.new ≡ self.old }
         ensures fits { OnOk result (length self.new.graph.nodes + additional < 2 ^ 63) }
@@ -108,6 +140,21 @@ impl<N: Drop, E: Drop, Ix: IndexType> Acyclic<N, E, Ix, DiGraph<N, E, Ix>> {
     /// # Complexity
     ///
     /// O(nodes) if a buffer has to be moved, and O(1) otherwise.
+    ///
+    /// # Examples
+    ///
+    /// ```
+    /// let mut dag: Dag<u32, u32> = Dag::new(rt.alloc());
+    /// dag.reserve_exact_nodes(2)?;
+    /// dag.reserve_exact_edges(1)?;
+    /// // Neither of these allocates.
+    /// let sow = dag.add_node(1)?;
+    /// let (days, _) = dag.add_child(sow, 90, 2)?;
+    /// assert!(rt; dag.remove_edge(days) == Some(90));
+    /// dag.shrink_to_fit_edges()?;
+    /// dag.shrink_to_fit_nodes()?;
+    /// assert!(rt; dag.node_count() == 2);
+    /// ```
     pub fn reserve_exact_nodes(&mut self, additional: usize) -> Result<(), AllocError>
         ensures same { self.new ≡ self.old }
         ensures fits { OnOk result (length self.new.graph.nodes + additional < 2 ^ 63) }

@@ -23,6 +23,22 @@ impl<N: Drop, E: Drop, Ix: IndexType> Acyclic<N, E, Ix, DiGraph<N, E, Ix>> {
     /// # Complexity
     ///
     /// O(nodes) for the whole iteration.
+    ///
+    /// # Examples
+    ///
+    /// ```
+    /// let mut dag: Dag<u32, ()> = Dag::new(rt.alloc());
+    /// let one = dag.add_node(1)?;
+    /// let two = dag.add_node(2)?;
+    /// // The dag may change during the loop.
+    /// for n in dag.node_identifiers() {
+    ///     if let Some(weight) = dag.node_weight_mut(n) {
+    ///         *weight *= 10;
+    ///     }
+    /// }
+    /// assert!(rt; dag.node_weight(one) == Some(&10));
+    /// assert!(rt; dag.node_weight(two) == Some(&20));
+    /// ```
     #[inline]
     pub fn node_identifiers(&self) -> NodeIdentifiers<Ix>
         ensures rest { result ≡ node_identifiers_of self.now.graph }
@@ -36,6 +52,17 @@ impl<N: Drop, E: Drop, Ix: IndexType> Acyclic<N, E, Ix, DiGraph<N, E, Ix>> {
     /// # Complexity
     ///
     /// O(edges) for the whole iteration.
+    ///
+    /// # Examples
+    ///
+    /// ```
+    /// let mut dag: Dag<&'static str, u32> = Dag::new(rt.alloc());
+    /// let sow = dag.add_node("sow")?;
+    /// let (days, _) = dag.add_child(sow, 90, "reap")?;
+    /// assert!(rt; dag.edge_identifiers().next() == Some(days));
+    /// // `edge_indices` is another name for it.
+    /// assert!(rt; dag.edge_indices().next() == Some(days));
+    /// ```
     #[inline]
     pub fn edge_identifiers(&self) -> EdgeIdentifiers<Ix>
         ensures rest { result ≡ edge_identifiers_of self.now.graph }
@@ -49,6 +76,14 @@ impl<N: Drop, E: Drop, Ix: IndexType> Acyclic<N, E, Ix, DiGraph<N, E, Ix>> {
     /// # Complexity
     ///
     /// O(nodes) for the whole iteration.
+    ///
+    /// # Examples
+    ///
+    /// ```
+    /// let mut dag: Dag<&'static str, ()> = Dag::new(rt.alloc());
+    /// let sow = dag.add_node("sow")?;
+    /// assert!(rt; dag.node_indices().next() == Some(sow));
+    /// ```
     #[inline]
     pub fn node_indices(&self) -> NodeIdentifiers<Ix>
         ensures rest { result ≡ node_identifiers_of self.now.graph }
@@ -75,6 +110,17 @@ impl<N: Drop, E: Drop, Ix: IndexType> Acyclic<N, E, Ix, DiGraph<N, E, Ix>> {
     /// # Complexity
     ///
     /// O(nodes) for the whole iteration.
+    ///
+    /// # Examples
+    ///
+    /// ```
+    /// let mut dag: Dag<&'static str, ()> = Dag::new(rt.alloc());
+    /// let sow = dag.add_node("sow")?;
+    /// let reap = dag.add_node("reap")?;
+    /// let mut nodes = dag.node_references();
+    /// assert!(rt; nodes.next() == Some((sow, &"sow")));
+    /// assert!(rt; nodes.next() == Some((reap, &"reap")));
+    /// ```
     #[inline]
     pub fn node_references(&self) -> NodeReferences<'_, N, Ix>
         ensures rest { result ≡ node_references_of self.now.graph }
@@ -88,6 +134,16 @@ impl<N: Drop, E: Drop, Ix: IndexType> Acyclic<N, E, Ix, DiGraph<N, E, Ix>> {
     /// # Complexity
     ///
     /// O(nodes) for the whole iteration.
+    ///
+    /// # Examples
+    ///
+    /// ```
+    /// let mut dag: Dag<u32, ()> = Dag::new(rt.alloc());
+    /// dag.add_node(2)?;
+    /// dag.add_node(3)?;
+    /// let weights: Vec<_> = dag.node_weights().copied().collect(rt.alloc())?;
+    /// assert!(rt; weights.as_slice() == [2, 3].as_slice());
+    /// ```
     #[inline]
     pub fn node_weights(&self) -> NodeWeights<'_, N, Ix>
         ensures rest { result ≡ node_weights_of self.now.graph }
@@ -101,6 +157,15 @@ impl<N: Drop, E: Drop, Ix: IndexType> Acyclic<N, E, Ix, DiGraph<N, E, Ix>> {
     /// # Complexity
     ///
     /// O(edges) for the whole iteration.
+    ///
+    /// # Examples
+    ///
+    /// ```
+    /// let mut dag: Dag<&'static str, u32> = Dag::new(rt.alloc());
+    /// let sow = dag.add_node("sow")?;
+    /// dag.add_child(sow, 90, "reap")?;
+    /// assert!(rt; dag.edge_weights().next() == Some(&90));
+    /// ```
     #[inline]
     pub fn edge_weights(&self) -> EdgeWeights<'_, E, Ix>
         ensures rest { result ≡ edge_weights_of self.now.graph }
@@ -132,7 +197,7 @@ impl<N: Drop, E: Drop, Ix: IndexType> Acyclic<N, E, Ix, DiGraph<N, E, Ix>> {
         self.guarded.store.edge_references()
     }
 
-    /// The edges from a node to its children, newest first, or none if the node does not exist.
+    /// The edges that leave a node, newest first. Empty if the node does not exist.
     #[inline]
     pub fn edges(&self, n: NodeIndex<Ix>) -> Edges<'_, E, Ix>
         ensures rest { result ≡ edges_at Outgoing self.now.graph (Ix.number n) }
@@ -141,8 +206,19 @@ impl<N: Drop, E: Drop, Ix: IndexType> Acyclic<N, E, Ix, DiGraph<N, E, Ix>> {
         self.guarded.store.edges(n)
     }
 
-    /// The edges from a node to its children, or those from its parents to it, newest first, or
-    /// none if the node does not exist.
+    /// The edges that leave a node (`Outgoing`), or the edges that enter it (`Incoming`), newest
+    /// first. Empty if the node does not exist.
+    ///
+    /// # Examples
+    ///
+    /// ```
+    /// let mut dag: Dag<&'static str, u32> = Dag::new(rt.alloc());
+    /// let sow = dag.add_node("sow")?;
+    /// let (days, reap) = dag.add_child(sow, 90, "reap")?;
+    /// let mut edges = dag.edges_directed(reap, Direction::Incoming);
+    /// assert!(rt; edges.next().is_some_and(|edge| edge.id() == days && edge.source() == sow));
+    /// assert!(rt; dag.edges_directed(reap, Direction::Outgoing).next().is_none());
+    /// ```
     #[inline]
     pub fn edges_directed(&self, n: NodeIndex<Ix>, dir: Direction) -> Edges<'_, E, Ix>
         ensures rest { result ≡ edges_at dir self.now.graph (Ix.number n) }
@@ -151,8 +227,20 @@ impl<N: Drop, E: Drop, Ix: IndexType> Acyclic<N, E, Ix, DiGraph<N, E, Ix>> {
         self.guarded.store.edges_directed(n, dir)
     }
 
-    /// The children of a node, one for each edge that leaves it, newest first, or none if the node
+    /// The children of a node, one for each edge that leaves it, newest first. Empty if the node
     /// does not exist.
+    ///
+    /// # Examples
+    ///
+    /// ```
+    /// let mut dag: Dag<&'static str, ()> = Dag::new(rt.alloc());
+    /// let sow = dag.add_node("sow")?;
+    /// let (_, hoe) = dag.add_child(sow, (), "hoe")?;
+    /// let (_, reap) = dag.add_child(sow, (), "reap")?;
+    /// // The newest edge comes first.
+    /// let children: Vec<_> = dag.neighbors(sow).collect(rt.alloc())?;
+    /// assert!(rt; children.as_slice() == [reap, hoe].as_slice());
+    /// ```
     #[inline]
     pub fn neighbors(&self, n: NodeIndex<Ix>) -> Neighbors<'_, E, Ix>
         ensures rest { result ≡ neighbors_at Outgoing self.now.graph (Ix.number n) }
@@ -161,8 +249,9 @@ impl<N: Drop, E: Drop, Ix: IndexType> Acyclic<N, E, Ix, DiGraph<N, E, Ix>> {
         self.guarded.store.neighbors(n)
     }
 
-    /// The children of a node, or its parents, one for each edge that leaves it, or that enters it,
-    /// newest first, or none if the node does not exist.
+    /// The children of a node (`Outgoing`), one for each edge that leaves it, or its parents
+    /// (`Incoming`), one for each edge that enters it, newest first. Empty if the node does not
+    /// exist.
     #[inline]
     pub fn neighbors_directed(&self, n: NodeIndex<Ix>, dir: Direction) -> Neighbors<'_, E, Ix>
         ensures rest { result ≡ neighbors_at dir self.now.graph (Ix.number n) }

@@ -1,4 +1,4 @@
-//! The same dag with other weights, and the part of a dag that closures keep.
+//! Mapping the weights of a dag, and the subgraph that closures keep.
 ghost use Rattle.std.specs.Prelude.{◌≡◌, length, IfOk};
 ghost use Rattle.daggy_base.specs.CallsInTurn.{CanCallAtNodes, CanCallAtEdges};
 ghost use Rattle.daggy_base.specs.CallsInTurn.{CanCallAtSomeEdges};

@@ -13,6 +13,18 @@ pub type RawEdges<'a, E, Ix> = &'a [Edge<E, Ix>];
 
 impl<N: Drop, E: Drop, Ix: IndexType> Acyclic<N, E, Ix, DiGraph<N, E, Ix>> {
     /// The nodes as they are stored, by index.
+    ///
+    /// # Examples
+    ///
+    /// ```
+    /// let mut dag: Dag<&'static str, u32> = Dag::new(rt.alloc());
+    /// let sow = dag.add_node("sow")?;
+    /// dag.add_child(sow, 90, "reap")?;
+    /// let node = dag.raw_nodes().get(1);
+    /// assert!(rt; node.is_some_and(|node| node.weight == "reap"));
+    /// let edge = dag.raw_edges().get(0);
+    /// assert!(rt; edge.is_some_and(|edge| edge.weight == 90 && edge.source() == sow));
+    /// ```
     #[inline]
     pub fn raw_nodes(&self) -> RawNodes<'_, N, Ix>
         ensures { ShowsNodes Ix.greatest self.now.graph result.now }

@@ -49,6 +49,16 @@ impl<N: Drop, E: Drop, Ix: IndexType> Acyclic<N, E, Ix, DiGraph<N, E, Ix>> {
     /// # Complexity
     ///
     /// O(edges), plus the calls.
+    ///
+    /// # Examples
+    ///
+    /// ```
+    /// let mut dag: Dag<&'static str, u32> = Dag::new(rt.alloc());
+    /// let sow = dag.add_node("sow")?;
+    /// let (days, _) = dag.add_child(sow, 90, "reap")?;
+    /// dag.update_edge_weights(|_, weight| *weight = 30);
+    /// assert!(rt; dag.edge_weight(days) == Some(&30));
+    /// ```
     pub fn update_edge_weights<F: FnMut(EdgeIndex<Ix>, &mut E)>(&mut self, f: F)
         requires { CanLendEdges Ix.of F.pre F.step f self.old.graph }
         ensures written { RewritesEdges Ix.of F.step f self.old.graph self.new.graph }

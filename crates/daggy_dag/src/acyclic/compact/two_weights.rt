@@ -25,6 +25,19 @@ impl<N: Drop, E: Drop, Ix: IndexType> Acyclic<N, E, Ix, DiGraph<N, E, Ix>> {
     /// # Complexity
     ///
     /// O(1), plus the call.
+    ///
+    /// # Examples
+    ///
+    /// ```
+    /// let mut dag: Dag<u32, ()> = Dag::new(rt.alloc());
+    /// let from = dag.add_node(10)?;
+    /// let to = dag.add_node(1)?;
+    /// if from != to {
+    ///     dag.update_two_nodes(from, to, |a, b| std::mem::swap(a, b));
+    /// }
+    /// assert!(rt; dag.node_weight(from) == Some(&1));
+    /// assert!(rt; dag.node_weight(to) == Some(&10));
+    /// ```
     #[inline]
     pub fn update_two_nodes<R, F: FnOnce(&mut N, &mut N) -> R>(
         &mut self,
@@ -60,6 +73,20 @@ impl<N: Drop, E: Drop, Ix: IndexType> Acyclic<N, E, Ix, DiGraph<N, E, Ix>> {
     /// # Complexity
     ///
     /// O(1), plus the call.
+    ///
+    /// # Examples
+    ///
+    /// ```
+    /// let mut dag: Dag<&'static str, u32> = Dag::new(rt.alloc());
+    /// let sow = dag.add_node("sow")?;
+    /// let reap = dag.add_node("reap")?;
+    /// let days = dag.add_edge(sow, reap, 90)?;
+    /// let more = dag.add_edge(sow, reap, 30)?;
+    /// if days != more {
+    ///     dag.update_two_edges(days, more, |a, b| std::mem::swap(a, b));
+    /// }
+    /// assert!(rt; dag.edge_weight(days) == Some(&30));
+    /// ```
     #[inline]
     pub fn update_two_edges<R, F: FnOnce(&mut E, &mut E) -> R>(
         &mut self,
@@ -95,6 +122,16 @@ impl<N: Drop, E: Drop, Ix: IndexType> Acyclic<N, E, Ix, DiGraph<N, E, Ix>> {
     /// # Complexity
     ///
     /// O(1), plus the call.
+    ///
+    /// # Examples
+    ///
+    /// ```
+    /// let mut dag: Dag<u32, u32> = Dag::new(rt.alloc());
+    /// let sow = dag.add_node(1)?;
+    /// let (days, _) = dag.add_child(sow, 90, 2)?;
+    /// dag.update_node_and_edge(sow, days, |weight, days| *weight = *days);
+    /// assert!(rt; dag.node_weight(sow) == Some(&90));
+    /// ```
     #[inline]
     pub fn update_node_and_edge<R, F: FnOnce(&mut N, &mut E) -> R>(
         &mut self,

@@ -34,6 +34,21 @@ impl<N: Drop, E: Drop, Ix: IndexType> Acyclic<N, E, Ix, StableDiGraph<N, E, Ix>>
     /// # Complexity
     ///
     /// O(nodes + edges).
+    ///
+    /// # Examples
+    ///
+    /// ```
+    /// let mut dag: Dag<&'static str, u32> = Dag::new(rt.alloc());
+    /// let sow = dag.add_node("sow")?;
+    /// let (_, reap) = dag.add_child(sow, 90, "reap")?;
+    /// match StableDag::from_dag(dag) {
+    ///     Ok(mut stable) => {
+    ///         assert!(rt; stable.remove_node(sow) == Some("sow"));
+    ///         assert!(rt; stable.node_weight(reap) == Some(&"reap"));
+    ///     }
+    ///     Err(_dag) => return Err(AllocError.into()),
+    /// }
+    /// ```
     pub fn from_dag(dag: Dag<N, E, Ix>) -> Result<Self, Dag<N, E, Ix>>
         ensures value { IfOk result (λ d. d ≡ record { graph = dag.graph; looks = 0 }) }
         ensures acyclic { IfOk result (λ d. IsAcyclic d.graph) }

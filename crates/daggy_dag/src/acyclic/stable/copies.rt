@@ -49,8 +49,8 @@ impl<N: Drop, E: Drop, Ix: IndexType> Acyclic<N, E, Ix, StableDiGraph<N, E, Ix>>
         Ok(Acyclic::from_parts(store, order, scratch))
     }
 
-    /// A dag with the same nodes and edges under the same indices, in the same lists, with a clone
-    /// of each weight, and with the same vacant slots, which are taken in the same order.
+    /// A dag with the same indices and lists, with a clone of each weight, and with the same vacant
+    /// slots, which are reused in the same order.
     ///
     /// # Errors
     ///

@@ -122,7 +122,7 @@ impl<N: Drop, E: Drop, Ix: IndexType> Acyclic<N, E, Ix, StableDiGraph<N, E, Ix>>
         self.guarded.store.edge_references()
     }
 
-    /// The edges from a node to its children, newest first, or none if the node does not exist.
+    /// The edges that leave a node, newest first. Empty if the node does not exist.
     #[inline]
     pub fn edges(&self, n: NodeIndex<Ix>) -> Edges<'_, E, Ix>
         ensures rest { result ≡ edges_at Outgoing self.now.graph (Ix.number n) }
@@ -131,8 +131,8 @@ impl<N: Drop, E: Drop, Ix: IndexType> Acyclic<N, E, Ix, StableDiGraph<N, E, Ix>>
         self.guarded.store.edges(n)
     }
 
-    /// The edges from a node to its children, or those from its parents to it, newest first, or
-    /// none if the node does not exist.
+    /// The edges that leave a node (`Outgoing`), or the edges that enter it (`Incoming`), newest
+    /// first. Empty if the node does not exist.
     #[inline]
     pub fn edges_directed(&self, n: NodeIndex<Ix>, dir: Direction) -> Edges<'_, E, Ix>
         ensures rest { result ≡ edges_at dir self.now.graph (Ix.number n) }
@@ -141,7 +141,7 @@ impl<N: Drop, E: Drop, Ix: IndexType> Acyclic<N, E, Ix, StableDiGraph<N, E, Ix>>
         self.guarded.store.edges_directed(n, dir)
     }
 
-    /// The children of a node, one for each edge that leaves it, newest first, or none if the node
+    /// The children of a node, one for each edge that leaves it, newest first. Empty if the node
     /// does not exist.
     #[inline]
     pub fn neighbors(&self, n: NodeIndex<Ix>) -> Neighbors<'_, E, Ix>
@@ -151,8 +151,9 @@ impl<N: Drop, E: Drop, Ix: IndexType> Acyclic<N, E, Ix, StableDiGraph<N, E, Ix>>
         self.guarded.store.neighbors(n)
     }
 
-    /// The children of a node, or its parents, one for each edge that leaves it, or that enters it,
-    /// newest first, or none if the node does not exist.
+    /// The children of a node (`Outgoing`), one for each edge that leaves it, or its parents
+    /// (`Incoming`), one for each edge that enters it, newest first. Empty if the node does not
+    /// exist.
     #[inline]
     pub fn neighbors_directed(&self, n: NodeIndex<Ix>, dir: Direction) -> Neighbors<'_, E, Ix>
         ensures rest { result ≡ neighbors_at dir self.now.graph (Ix.number n) }

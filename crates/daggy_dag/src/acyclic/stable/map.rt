@@ -1,4 +1,4 @@
-//! The same dag with other weights, and the part of a dag that closures keep.
+//! Mapping the weights of a dag, and the subgraph that closures keep.
 ghost use Rattle.std.specs.Prelude.{◌≡◌, ℕ, ◌<◌, ◌≤◌, Contains, filter, is_some, IfOk};
 ghost use Rattle.daggy_base.specs.Graph.{node_weight as weight_at};
 ghost use Rattle.daggy_base.specs.CallsInTurn.{CanCallAtNodes, CanCallAtEdges};
@@ -44,7 +44,7 @@ impl<N: Drop, E: Drop, Ix: IndexType> Acyclic<N, E, Ix, StableDiGraph<N, E, Ix>>
     ///
     /// # Complexity
     ///
-    /// O(nodes + edges), plus the calls.
+    /// O(slots), plus the calls.
     pub fn map<
         N2: Drop,
         E2: Drop,
@@ -67,8 +67,8 @@ impl<N: Drop, E: Drop, Ix: IndexType> Acyclic<N, E, Ix, StableDiGraph<N, E, Ix>>
     /// node in ascending index order, and then `g` with each edge whose endpoints were both kept.
     ///
     /// Nodes and edges that are kept keep their indices. Slots after the last node and the last
-    /// edge are dropped; what is left out leaves vacant slots, the highest of which is reused
-    /// first. Each list is in descending index order.
+    /// edge are dropped; nodes and edges that are left out leave vacant slots, the highest of which
+    /// is reused first. Each list is in descending index order.
     ///
     /// # Requires
     ///
@@ -82,7 +82,20 @@ impl<N: Drop, E: Drop, Ix: IndexType> Acyclic<N, E, Ix, StableDiGraph<N, E, Ix>>
     ///
     /// # Complexity
     ///
-    /// O(nodes + edges), plus the calls.
+    /// O(slots), plus the calls.
+    ///
+    /// # Examples
+    ///
+    /// ```
+    /// let mut dag: StableDag<u32, u32> = StableDag::new(rt.alloc());
+    /// let sow = dag.add_node(1)?;
+    /// let (_, water) = dag.add_child(sow, 1, 60)?;
+    /// let (_, reap) = dag.add_child(sow, 90, 2)?;
+    /// let short = dag.filter_map(|_, n| if *n < 60 { Some(*n) } else { None }, |_, e| Some(*e))?;
+    /// // The others keep their indices.
+    /// assert!(rt; short.node_weight(reap) == Some(&2));
+    /// assert!(rt; !short.contains_node(water));
+    /// ```
     pub fn filter_map<
         N2: Drop,
         E2: Drop,
