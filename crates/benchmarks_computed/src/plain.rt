@@ -116,7 +116,7 @@ fn check<S: Store<u32, NodeWeight = Cell, EdgeWeight = ()>>(
     sum
 }
 
-// Fills a dag, and times so many rounds of changes. Another one is not timed, and counted.
+// Fills a dag, and times that many rounds of changes. One more round is counted, and not timed.
 fn time_rounds<S: Store<u32, NodeWeight = Cell, EdgeWeight = ()>, R: AllocGlobal + CpuClock>(
     rt: &R,
     dag: &mut Acyclic<Cell, (), u32, S>,

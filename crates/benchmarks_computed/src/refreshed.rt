@@ -99,7 +99,7 @@ fn check<S: Store<u32, NodeWeight = Formula, EdgeWeight = ()>>(
     sum
 }
 
-// Fills a sheet, and times so many rounds of changes. Another one is not timed, and counted.
+// Fills a sheet, and times that many rounds of changes. One more round is counted, and not timed.
 fn time_rounds<S: Store<u32, NodeWeight = Formula, EdgeWeight = ()>, R: AllocGlobal + CpuClock>(
     rt: &R,
     sheet: &mut Computed<Formula, i64, (), u32, S>,

@@ -52,7 +52,7 @@ impl Shape {
         }
     }
 
-    // Which nodes change: one in so many, beginning with the first.
+    // Which nodes change: the first, and every so many nodes after it.
     fn step(self, nodes: u32) -> u32 {
         match self {
             Shape::Chain | Shape::Fan => nodes,
