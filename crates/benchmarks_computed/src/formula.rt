@@ -39,7 +39,7 @@ impl Formula {
         }
     }
 
-    /// The same formula with another number, where it has one of its own.
+    /// The same formula with this number, if it has a number.
     pub fn with_number(self, number: i64) -> Formula {
         match self {
             Formula::Sum(_) => Formula::Sum(number),

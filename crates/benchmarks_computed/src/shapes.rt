@@ -52,7 +52,7 @@ impl Shape {
         }
     }
 
-    // Which nodes change: the first, and every so many nodes after it.
+    // The distance from one node that changes to the next. The first one is node 0.
     fn step(self, nodes: u32) -> u32 {
         match self {
             Shape::Chain | Shape::Fan => nodes,

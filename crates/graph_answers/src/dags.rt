@@ -14,8 +14,7 @@ use std::io::{self, Write};
 /// The members of a component.
 pub type Members = Vec<NodeIndex<u32>>;
 
-/// What is told of the edges between two components: how many there are, and the sum of their
-/// indices.
+/// The number of edges between two components, and the sum of their indices.
 pub type Tally = (u64, u64);
 
 // Writes the members of each node.

@@ -3,7 +3,8 @@
 use daggy_base::index::NodeIndex;
 use std::alloc::{AllocError, Global};
 
-/// How many nodes there are at most. Each has a bit in a set of nodes. With so many, few stale nodes wait in a heap, and many are computed along the order.
+/// The most nodes that there are. Each has a bit in a set of nodes. A refresh of a dag of this size
+/// uses the heap if few nodes are stale, and goes along the order if many are.
 pub const LIMIT: usize = 96;
 
 /// What a value is made of, beside the values of the parents. It names its node, so that it is known which

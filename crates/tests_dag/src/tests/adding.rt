@@ -120,7 +120,7 @@ fn bytes_number_255_edges(rt: HostRuntime) {
         update 0 1 9 = edge 254
         stored 254 = stored 0 1 9
         edges 0 1 1 = no_index_at 1
-        # What is missing is told before that no index is left.
+        # A missing node is reported before a missing index.
         edges 9 9 1 = no_end_at 1
         remove_edge 254 = weight 9
         # The second item finds no index, and also closes a cycle.
