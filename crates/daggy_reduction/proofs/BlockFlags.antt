@@ -1,8 +1,9 @@
 -- A block worked through, node by node from the last to the first, while rows are written and edges are flagged.
 use Rattle.std.proofs.Common.{◌≡◌, ℕ, suc, ◌+◌, ◌-◌, ◌*◌, ◌<◌, ◌≤◌, Bool, true, false, ◌⊎◌, ◌↔◌, inl, inr, List}
 use Rattle.std.proofs.Common.{length, get_or, set, length-set, refl, sym, ap, subst, ◌∙◌, arith, Contains}
-use Rattle.std.proofs.lemmas.Bool.{cases_eq}
-use Rattle.daggy_base.specs.Graph.{Graph, edge_count}
+use Rattle.std.proofs.lemmas.Bool.{cases_eq, cases_lt}
+use Rattle.daggy_base.specs.Graph.{Graph, Edge, edge_count}
+use Rattle.daggy_base.specs.Path.{AreJoined}
 use Rattle.daggy_base.specs.Reduction.{ReachesIndirectly}
 use Rattle.daggy_base.specs.WellFormed.{IsWellFormed}
 use Rattle.daggy_base.proofs.OutEdgesRead.{joins}
@@ -11,9 +12,10 @@ use Rattle.daggy_search.specs.declared.arcs.Segment.{Segment}
 use Rattle.daggy_redundant.specs.Flags.{IsFlagged}
 use Rattle.daggy_reduction.proofs.BlockRows.{AreRows, IsRow}
 use Rattle.daggy_reduction.specs.Blocks.{IsPlaced, HasBits, HasBit, AreArcsOf, AreArcs, AreLaidOut, AreLeft, HasArcTo}
-use Rattle.daggy_reduction.specs.Blocks.{ArePassedOn, MarksArcs, is_in_row, segment_at, arcs_in, LeadsInto}
+use Rattle.daggy_reduction.specs.Blocks.{ArePassedOn, MarksArcs, is_in_row, segment_at, segment_length, arcs_in, LeadsInto}
+use Rattle.daggy_reduction.specs.Blocks.{IsArcTo, StayBefore, LeadAtMost}
 use Rattle.daggy_reduction.proofs.SegmentArcs.{arcs_same, arcs_later}
-use Rattle.daggy_reduction.proofs.LaidOut.{laid_out_shorter, others_kept, here_is, arcs_fewer}
+use Rattle.daggy_reduction.proofs.LaidOut.{laid_out_shorter, others_kept, here_is, arcs_fewer, each_shorter}
 use Rattle.daggy_reduction.proofs.BlockRows.{LeadsFrom, there, listed_at}
 use Rattle.daggy_reduction.proofs.BlockRows.{row_direct, row_indirect, rows_pass, row_both, rows_on, flags_here, arcs_left}
 
@@ -56,6 +58,32 @@ pub record Working {N E I : Type 0} (t : Task N E I) (now : Progress I) : Type 0
       ↔ (IsFlagged t.end t.flags e
       ⊎ ((m : ℕ) × (now.left ≤ m) × (m < t.high) × LeadsFrom t.graph t.places t.low t.high (get_or t.nodes m 0) e))
 
+-- How far a search for the next block's first node is: no node from the place left up to it has a child past the block,
+-- and it is as near as its edges lead.
+pub record Onward {N E : Type 0} (g : Graph N E) (nodes places : List ℕ) (high left first : ℕ) : Type 0 where
+  pub early : first ≤ high
+  pub before : (u v : ℕ) → Contains nodes u → AreJoined g u v → left ≤ get_or places u 0 → get_or places u 0 < first
+      → get_or places v 0 < high
+  pub near : (d : ℕ) → LeadAtMost g nodes places d → high ≤ first + d
+
+pub onward_start : {N E : Type 0} (g : Graph N E) (nodes places : List ℕ) (high : ℕ) → Onward g nodes places high high high
+onward_start g nodes places high =
+    record {
+      early = omega arith;
+      before = λ u v c j from till. absurd (omega (arith, from, till));
+      near = λ d all. omega arith;
+    }
+
+-- nodes that are left have no child past the block, where they have none in it
+pub onward_done : {N E : Type 0} {g : Graph N E} {nodes places : List ℕ} {high left first : ℕ}
+    → Onward g nodes places high left first → (from low : ℕ) → left ≤ from → StayBefore g nodes places from low
+    → low ≤ high → StayBefore g nodes places first high
+onward_done {places = places} {left = left} o from low stop stays up u v c j till =
+    elim (cases_lt (get_or places u 0) left) [
+      | inl early ↦ omega (arith, stays u v c j (omega (arith, early, stop)), up)
+      | inr late ↦ o.before u v c j late till
+    ]
+
 pub work_start : {N E I : Type 0} (t : Task N E I) (rows : List (List Bool)) (arcs : List (Arc I)) (segments : List Segment)
     → length rows ≡ t.room → length segments ≡ t.segments → t.low ≤ t.high → t.high ≤ length t.nodes
     → AreArcs t.number t.graph t.nodes t.places t.low arcs segments
@@ -97,19 +125,70 @@ module _ {N E I : Type 0} {t : Task N E I} (w : IsWellFormed t.end t.graph) (pl 
         let P : ℕ → Type 0 = λ z. AreRows t.graph t.nodes t.low t.high z now.rows in subst P (sym m_is) s.rows
 
     -- what was paid for, with what the nodes that are left cost at most
-    pub work_paid : (looks looks' all : ℕ) → looks + 2 * arcs_in now.segments now.left ≤ all
-        → looks' ≤ looks + 2 * (seg.end - seg.begin) → length t.nodes ≤ length now.segments → (stop : ℕ)
-        → seg.begin ≤ stop → stop ≤ seg.end → {segments' : List Segment}
-        → segments' ≡ set now.segments m (record { begin = seg.begin; end = stop }) → looks' + 2 * arcs_in segments' m ≤ all
-    work_paid looks looks' all paid more fits stop from till segments_are =
+    pub work_paid : (before : List Segment) → ((k : ℕ) → segment_length now.segments k ≤ segment_length before k)
+        → (looks looks' all : ℕ) → looks + 2 * arcs_in before now.left ≤ all
+        → looks' ≤ looks + 2 * (seg.end - seg.begin) → looks' + 2 * arcs_in before m ≤ all
+    work_paid before shorter looks looks' all paid more =
+        omega (arith, paid, more, shorter m, ap (arcs_in before) m_is)
+
+    -- the segments are still no longer than they were
+    pub work_shorter : (before : List Segment) → ((k : ℕ) → segment_length now.segments k ≤ segment_length before k)
+        → length t.nodes ≤ length now.segments → (stop : ℕ) → seg.begin ≤ stop → stop ≤ seg.end → {segments' : List Segment}
+        → segments' ≡ set now.segments m (record { begin = seg.begin; end = stop })
+        → (k : ℕ) → segment_length segments' k ≤ segment_length before k
+    work_shorter before shorter fits stop from till segments_are k =
         omega (
           arith,
-          paid,
-          more,
-          ap (arcs_in now.segments) m_is,
-          ap (λ z. arcs_in z m) segments_are,
-          arcs_fewer s.laid_out m here fits stop from till m,
+          shorter k,
+          ap (λ z. segment_length z k) segments_are,
+          each_shorter s.laid_out m here fits stop from till k,
         )
+
+    -- whether the node has a child past the block tells where the next block's first node is
+    pub onward_on : t.low < t.high → {first : ℕ} → Onward t.graph t.nodes t.places t.high now.left first → (beyond : ℕ)
+        → ((t.high ≤ beyond) ↔ HasArcTo now.arcs seg (λ p. t.high ≤ p)) → {first' : ℕ} → (t.high ≤ beyond → first' ≡ m)
+        → (beyond < t.high → first' ≡ first) → Onward t.graph t.nodes t.places t.high m first'
+    onward_on up {first} o beyond told {first'} this other =
+        elim (cases_lt beyond t.high) [ inl none ↦ later none (other none) | inr some ↦ here_first some (this some) ]
+      where
+        here_first : t.high ≤ beyond → first' ≡ m → Onward t.graph t.nodes t.places t.high m first'
+        here_first some at =
+            record {
+              early = omega (arith, at, m_is, s.within);
+              before = λ u v c j from till. absurd (omega (arith, at, from, till));
+              near = λ d all.
+                  (let (a, inside, far) = told.0 some in
+                  let l = arcs_are.real a inside in
+                  let j = joins t.end t.graph w (t.number a.edge) n l.edge l.at l.parent in
+                  omega (arith, at, far, l.place, all n l.edge.child (listed_at pl m here) j, pl.at m here));
+            }
+
+        stays : beyond < t.high → (v : ℕ) → AreJoined t.graph n v → get_or t.places v 0 < t.high
+        stays none v j =
+            let x : Edge E = record { parent = n; child = v; weight = j.1 } in
+            let l : IsArcTo t.graph t.places n j.0 (get_or t.places v 0) =
+            record { edge = x; at = j.2; parent = refl; place = refl } in
+            elim (arcs_are.all j.0 (get_or t.places v 0) l) [
+              | inl (a, inside, e_is, p_is) ↦ elim (cases_lt (get_or t.places v 0) t.high) [
+                | inl low ↦ low
+                | inr far ↦ absurd (omega (arith, none, told.1 (a, inside, omega (arith, p_is, far))))
+              ]
+              | inr (early, round) ↦ omega (arith, early, up)
+            ]
+
+        later : beyond < t.high → first' ≡ first → Onward t.graph t.nodes t.places t.high m first'
+        later none at =
+            record {
+              early = omega (arith, at, o.early);
+              before = λ u v c j from till. elim (cases_lt (get_or t.places u 0) now.left) [
+                | inl left ↦
+                    (let u_is : n ≡ u =
+                    ap (λ z. get_or t.nodes z 0) (omega (arith, from, left, m_is)) ∙ (there pl u c).1 in
+                    stays none v (subst (λ z. AreJoined t.graph z v) (sym u_is) j))
+                | inr done ↦ o.before u v c j done (omega (arith, at, till))
+              ];
+              near = λ d all. omega (arith, at, o.near d all);
+            }
 
     pub passed_on : ArePassedOn now.arcs seg t.low t.high now.rows
     passed_on = rows_pass pl t.low t.high inside m here t.number w now.arcs seg arcs_are now.rows rows_are
@@ -194,15 +273,22 @@ module _ {N E I : Type 0} {t : Task N E I} (w : IsWellFormed t.end t.graph) (pl 
           Behind : ℕ → List Segment → Type 0
           Behind k z = AreArcsOf t.number t.graph t.places t.high (get_or t.nodes k 0) arcs' (segment_at z k)
 
-  -- with none left, each node has its arcs
-  pub work_listed : now.left ≡ 0 → AreArcs t.number t.graph t.nodes t.places t.high now.arcs now.segments
-  work_listed none =
-      record { laid_out = s.laid_out; few = s.few; each = λ k low. s.behind k (omega (arith, none)) low }
+  -- each node has its arcs, also one that is left
+  pub work_listed : t.low ≤ t.high → AreArcs t.number t.graph t.nodes t.places t.high now.arcs now.segments
+  work_listed up =
+      record {
+        laid_out = s.laid_out;
+        few = s.few;
+        each = λ k low. elim (cases_lt k now.left) [
+          | inl early ↦ arcs_later up (s.ahead k early)
+          | inr late ↦ s.behind k late low
+        ];
+      }
 
-  -- with none left, exactly the edges that lead into the block are flagged since
-  pub work_done : now.left ≡ 0 → (e : ℕ) → IsFlagged t.end now.flags e
-      ↔ (IsFlagged t.end t.flags e ⊎ LeadsInto t.graph t.nodes t.places t.low t.high e)
-  work_done none e = (
+  -- where no edge leads from those that are left into the block, exactly the edges that lead into it are flagged since
+  pub work_done : (first : ℕ) → now.left ≤ first → StayBefore t.graph t.nodes t.places first t.low → (e : ℕ)
+      → IsFlagged t.end now.flags e ↔ (IsFlagged t.end t.flags e ⊎ LeadsInto t.graph t.nodes t.places t.low t.high e)
+  work_done first stop stays e = (
     λ h. elim ((s.flagged e).0 h) [
       | inl a ↦ inl a
       | inr late ↦
@@ -224,10 +310,14 @@ module _ {N E I : Type 0} {t : Task N E I} (w : IsWellFormed t.end t.graph) (pl 
           (let u = l.edge.parent in
           let at = there pl u l.parent in
           let R : ℕ → Type 0 = λ z. ReachesIndirectly t.graph z l.edge.child in
-          let rise = pl.sorted u l.edge.child l.parent (joins t.end t.graph w e u l.edge l.at refl) in
+          let joined = joins t.end t.graph w e u l.edge l.at refl in
+          let rise = pl.sorted u l.edge.child l.parent joined in
           inr (
             get_or t.places u 0,
-            omega (arith, none),
+            elim (cases_lt (get_or t.places u 0) now.left) [
+              | inl early ↦ absurd (omega (arith, l.from, stays u l.edge.child l.parent joined (omega (arith, early, stop))))
+              | inr late ↦ late
+            ],
             omega (arith, rise, l.till),
             record {
               edge = l.edge;

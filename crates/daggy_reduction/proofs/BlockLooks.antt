@@ -1,8 +1,11 @@
 -- How many looks the blocks take.
-use Rattle.std.proofs.Common.{◌≡◌, ℕ, ◌+◌, ◌*◌, ◌/◌, ◌<◌, ◌≤◌, inl, inr, ap, ◌∙◌, arith}
+use Rattle.std.proofs.Common.{◌≡◌, ℕ, ◌+◌, ◌-◌, ◌*◌, ◌/◌, ◌<◌, ◌≤◌, inl, inr, List, ap, ◌∙◌, arith}
 use Rattle.std.proofs.Math.Nat.{add-mul, mul_assoc, mul_comm, mul-le-mul_right}
 use Rattle.std.proofs.lemmas.Bool.{cases_lt}
-use Rattle.daggy_reduction.specs.Blocks.{blocks_of}
+use Rattle.daggy_search.specs.declared.arcs.Segment.{Segment}
+use Rattle.daggy_reduction.specs.Blocks.{blocks_of, segment_length, arcs_in}
+use Rattle.daggy_reduction.proofs.CountedArcs.{sum_up}
+use Rattle.daggy_reduction.proofs.LaidOut.{arcs_between}
 
 pub blocks_up : (low high : ℕ) → low ≤ high → blocks_of low ≤ blocks_of high
 blocks_up low high up = omega (arith, up)
@@ -21,6 +24,65 @@ block_paid edges base low high looks looks' full up paid more =
     let step : (blocks_of low + 1) * edges ≤ blocks_of high * edges =
     mul-le-mul_right edges (blocks_more low high full up) in
     omega (arith, paid, more, step, add-mul (blocks_of low) 1 edges)
+
+-- a block takes no more than two looks at each edge
+pub block_most : (segments : List Segment) (high count edges first looks looks' : ℕ) → high ≤ count
+    → arcs_in segments count ≤ edges → looks' + 2 * arcs_in segments first ≤ looks + 2 * arcs_in segments high
+    → looks' ≤ looks + 2 * edges
+block_most segments high count edges first looks looks' within few paid =
+    omega (arith, paid, few, sum_up (segment_length segments) high count within)
+
+-- where the block before the one that begins at low begins
+abbrev pub block_before : ℕ → ℕ
+block_before low = 512 * (blocks_of low - 1)
+
+-- Blocks that go back no farther than the block before: each arc is paid for in its own block and in the next one.
+pub record NearPaid (segments : List Segment) (count low first base edges looks : ℕ) : Type 0 where
+  pub reached : low < count → block_before low ≤ first
+  pub paid : looks + 4 * arcs_in segments count
+      ≤ base + 4 * edges + 2 * arcs_in segments low + 2 * arcs_in segments (block_before low)
+
+pub near_start : (segments : List Segment) (count base edges looks : ℕ) → looks ≤ base → arcs_in segments count ≤ edges
+    → NearPaid segments count 0 0 base edges looks
+near_start segments count base edges looks paid few =
+    record { reached = λ more. omega arith; paid = omega (arith, paid, few) }
+
+pub near_on : {old : List Segment} {count low first base edges looks : ℕ}
+    → NearPaid old count low first base edges looks → low < count → low ≡ 512 * blocks_of low → (high first' : ℕ)
+    → low < high → high ≤ count → high ≤ low + 512 → (high < count → high ≡ low + 512) → high ≤ first' + 512
+    → (new : List Segment) → ((k : ℕ) → segment_length new k ≤ segment_length old k) → (looks' : ℕ)
+    → looks' + 2 * arcs_in old first ≤ looks + 2 * arcs_in old high
+    → NearPaid new count high first' base edges looks'
+near_on {old} {count} {low} {first} n more full high first' up within few whole near new less looks' paid' =
+    let before : block_before high ≡ low = omega (arith, full, up, few) in
+    record {
+      reached = λ on. omega (arith, before, whole on, near);
+      paid =
+          omega (
+            arith,
+            n.paid,
+            paid',
+            sum_up (segment_length old) (block_before low) first (n.reached more),
+            arcs_between old new less high count within,
+            arcs_between old new less low count (omega (arith, more)),
+            ap (arcs_in new) before,
+          );
+    }
+
+pub near_done : {segments : List Segment} {count low first base edges looks : ℕ}
+    → NearPaid segments count low first base edges looks → low ≡ count → looks ≤ base + 4 * edges
+near_done {segments} {count} {low} n done =
+    let before : block_before low ≤ count = omega (arith, done) in
+    omega (
+      arith,
+      n.paid,
+      ap (arcs_in segments) done,
+      sum_up (segment_length segments) (block_before low) count before,
+    )
+
+pub near_paid : (edges passes old looks : ℕ) → looks ≤ old + (passes + 1) * edges + 4 * edges
+    → looks ≤ old + (passes + 5) * edges
+near_paid edges passes old looks paid = omega (arith, paid, add-mul passes 1 edges, add-mul passes 5 edges)
 
 -- all blocks, after the passes that found and listed what is in them
 pub blocks_paid : (edges old looks passes count nodes : ℕ) → count ≤ nodes

@@ -1,13 +1,16 @@
 -- Edges counted at their parents, one by one.
-use Rattle.std.proofs.Common.{◌≡◌, ℕ, ◌+◌, ◌<◌, ◌≤◌, ◌⊎◌, inl, inr, Some, List, [], ◌∷◌, length, get_or, set}
+use Rattle.std.proofs.Common.{◌≡◌, ◌≢◌, is_some, None, ℕ, ◌+◌, ◌<◌, ◌≤◌, ◌⊎◌, inl, inr, Some, List, [], ◌∷◌, length, get_or, set}
 use Rattle.std.proofs.Common.{refl, sym, ap, subst, ◌∙◌, arith}
 use Rattle.std.proofs.lemmas.Bool.{cases_eq, cases_lt}
 use Rattle.std.proofs.lemmas.List.{get_or-set_same, get_or-set_other, get_or_past}
-use Rattle.daggy_base.specs.Graph.{Graph, Edge, edge_at, out_list}
+use Rattle.std.proofs.lemmas.Option.{none-some, same_Some}
+use Rattle.daggy_base.specs.Graph.{Graph, Edge, edge_at, edge_bound, out_list}
+use Rattle.daggy_base.specs.Ordered.{place}
 use Rattle.daggy_base.specs.Path.{AreJoined}
 use Rattle.daggy_base.specs.WellFormed.{IsWellFormed}
 use Rattle.daggy_base.proofs.Lists.{Mem, Unique, fewer_than}
-use Rattle.daggy_base.proofs.OutEdgesRead.{listed}
+use Rattle.daggy_base.proofs.OutEdgesRead.{listed, below_bound}
+use Rattle.daggy_reduction.specs.Spans.{AreLastChildren}
 use Rattle.daggy_order.proofs.MovedNodes.{no_longer}
 
 -- a list is written from the front with one number
@@ -110,3 +113,91 @@ module _ {N E : Type 0} {g : Graph N E} {end k : ℕ} {cursors nodes : List ℕ}
               | inr put ↦ rw (put, get_or-set_same nodes x.parent x.child end room) (inr (k, x.weight, at))
             ];
           }
+
+-- of the edges below k, no child of a node is later than the one that is noted
+pub record LastNoted {N E : Type 0} (g : Graph N E) (order : List ℕ) (end k : ℕ) (nodes : List ℕ) : Type 0 where
+  pub some : (e : ℕ) (x : Edge E) → e < k → edge_at g e ≡ Some x → get_or nodes x.parent end ≢ end
+  pub last : (e : ℕ) (x : Edge E) → e < k → edge_at g e ≡ Some x
+      → place order x.child ≤ place order (get_or nodes x.parent end)
+
+pub last_start : {N E : Type 0} (g : Graph N E) (order : List ℕ) (end : ℕ) (nodes : List ℕ)
+    → LastNoted g order end 0 nodes
+last_start g order end nodes =
+    record { some = λ e x low at. absurd (omega (arith, low)); last = λ e x low at. absurd (omega (arith, low)) }
+
+module _ {N E : Type 0} {g : Graph N E} {order : List ℕ} {end k : ℕ} {nodes : List ℕ}
+    (s : LastNoted g order end k nodes) where
+  pub last_gap : edge_at g k ≡ None → LastNoted g order end (k + 1) nodes
+  last_gap none =
+      record {
+        some = λ e x low at. s.some e x (early e x low at) at;
+        last = λ e x low at. s.last e x (early e x low at) at;
+      }
+    where
+      early : (e : ℕ) (x : Edge E) → e < k + 1 → edge_at g e ≡ Some x → e < k
+      early e x low at =
+          elim (cases_lt e k) [
+            | inl less ↦ less
+            | inr past ↦
+                (let is : k ≡ e = omega (arith, low, past) in
+                absurd (none-some x (sym none ∙ ap (edge_at g) is ∙ at)))
+          ]
+
+  pub last_on : (x : Edge E) → edge_at g k ≡ Some x → {nodes' : List ℕ}
+      → (nodes' ≡ nodes) ⊎ (nodes' ≡ set nodes x.parent x.child) → get_or nodes' x.parent end ≢ end
+      → ((v : ℕ) → (v ≡ x.child) ⊎ ((get_or nodes x.parent end ≡ v) × (v ≢ end))
+      → place order v ≤ place order (get_or nodes' x.parent end))
+      → LastNoted g order end (k + 1) nodes'
+  last_on x at {nodes'} child there later =
+      record { some = λ e y low at_e. (both e y low at_e).0; last = λ e y low at_e. (both e y low at_e).1 }
+    where
+      Here : ℕ → ℕ → Type 0
+      Here v u = (get_or nodes' u end ≢ end) × (place order v ≤ place order (get_or nodes' u end))
+
+      kept : (u : ℕ) → u ≢ x.parent → get_or nodes' u end ≡ get_or nodes u end
+      kept u apart =
+          elim child [
+            | inl same ↦ ap (λ z. get_or z u end) same
+            | inr put ↦ ap (λ z. get_or z u end) put ∙ get_or-set_other nodes x.parent u x.child end apart
+          ]
+
+      old : (e : ℕ) (y : Edge E) → e < k → edge_at g e ≡ Some y → Here y.child y.parent
+      old e y low at_e =
+          elim (cases_eq y.parent x.parent) [
+            | inl here ↦
+                (let was = get_or nodes y.parent end in
+                let noted : get_or nodes x.parent end ≡ was = ap (λ z. get_or nodes z end) (sym here) in
+                let on = later was (inr (noted, s.some e y low at_e)) in
+                subst (Here y.child) (sym here) (there, omega (arith, s.last e y low at_e, on)))
+            | inr apart ↦
+                subst (λ z. (z ≢ end) × (place order y.child ≤ place order z)) (sym (kept y.parent apart))
+                (s.some e y low at_e, s.last e y low at_e)
+          ]
+
+      both : (e : ℕ) (y : Edge E) → e < k + 1 → edge_at g e ≡ Some y → Here y.child y.parent
+      both e y low at_e =
+          elim (cases_lt e k) [
+            | inl early ↦ old e y early at_e
+            | inr past ↦
+                (let is : k ≡ e = omega (arith, low, past) in
+                let same : x ≡ y = same_Some x y (sym at ∙ ap (edge_at g) is ∙ at_e) in
+                subst (λ (z : Edge E). Here z.child z.parent) same (there, later x.child (inl refl)))
+          ]
+
+-- with all edges seen, the noted children are the last ones
+pub all_last : {N E : Type 0} {g : Graph N E} {order : List ℕ} {end k : ℕ} {nodes : List ℕ}
+    → LastNoted g order end k nodes → edge_bound g ≤ k
+    → ((n : ℕ) → (get_or nodes n end ≡ end) ⊎ AreJoined g n (get_or nodes n end))
+    → AreLastChildren g order end nodes
+all_last {N} {E} {g} {order} {end} {k} s whole joined =
+    record {
+      joined = joined;
+      some = λ u v j. s.some j.0 (edge j) (low j) j.2;
+      last = λ u v j. s.last j.0 (edge j) (low j) j.2;
+    }
+  where
+    edge : {u v : ℕ} → AreJoined g u v → Edge E
+    edge {u} {v} j = record { parent = u; child = v; weight = j.1 }
+
+    low : {u v : ℕ} (j : AreJoined g u v) → j.0 < k
+    low j = omega (arith, below_bound g.edges j.0 (ap is_some j.2), whole)

@@ -36,6 +36,14 @@ module _ {I : Type 0} (arcs : List (Arc I)) (s : Segment) where
   bits_done k done low high At row has =
       let P : ℕ → Type 0 = λ z. HasBits low high (λ i. HasArcTo arcs (front s z) (At i)) row in subst P done has
 
+  -- nothing is found before the first arc
+  pub found_start : (At : ℕ → Type 0) (Found : Type 0) → (Found → ⊥) → Found ↔ HasArcTo arcs (front s s.begin) At
+  found_start At Found none = (λ f. absurd (none f), λ (a, inside, at). absurd (in_none arcs s.begin a inside))
+
+  pub found_done : (k : ℕ) → k ≡ s.end → (At : ℕ → Type 0) (Found : Type 0)
+      → (Found ↔ HasArcTo arcs (front s k) At) → Found ↔ HasArcTo arcs s At
+  found_done k done At Found has = subst (λ z. Found ↔ HasArcTo arcs (front s z) At) done has
+
   module _ (k : ℕ) (x : Arc I) (from : s.begin ≤ k) (till : k < length arcs) (x_is : x ≡ get_or arcs k x) where
     pub bits_on : (low high p : ℕ) → p ≡ x.place → (At : ℕ → ℕ → Type 0) (old new : List Bool)
         → HasBits low high (λ i. HasArcTo arcs (front s k) (At i)) old
@@ -51,6 +59,20 @@ module _ {I : Type 0} (arcs : List (Arc I)) (s : Segment) where
         | inl early ↦ inl ((before i low_i).1 (a, early, at))
         | inr same ↦
             (let P : Arc I → Type 0 = λ z. At i z.place in inr (subst (At i) (sym p_is) (subst P same at)))
+      ]),
+    )
+
+    pub found_on : (p : ℕ) → p ≡ x.place → (At : ℕ → Type 0) (Old New : Type 0)
+        → (Old ↔ HasArcTo arcs (front s k) At) → (New ↔ (Old ⊎ At p)) → New ↔ HasArcTo arcs (front s (k + 1)) At
+    found_on p p_is At Old New before more = (
+      λ t. elim (more.0 t) [
+        | inl b ↦
+            (let (a, inside, at) = before.0 b in (a, (in_step arcs s.begin k x from till x_is a).1 (inl inside), at))
+        | inr at ↦ (x, (in_step arcs s.begin k x from till x_is x).1 (inr refl), subst At p_is at)
+      ],
+      λ (a, inside, at). more.1 (elim ((in_step arcs s.begin k x from till x_is a).0 inside) [
+        | inl early ↦ inl (before.1 (a, early, at))
+        | inr same ↦ inr (subst At (ap (λ (z : Arc I). z.place) same ∙ sym p_is) at)
       ]),
     )
 

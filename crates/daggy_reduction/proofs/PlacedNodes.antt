@@ -18,7 +18,8 @@ use Rattle.daggy_base.proofs.OutEdgesRead.{below_bound}
 use Rattle.daggy_base.proofs.PathsWithEdge.{reaches_on}
 use Rattle.daggy_base.proofs.Sorted.{mem_filter, filter_mem, place_at, place_same, place_other, unique_cross}
 use Rattle.daggy_base.proofs.ListParts.{filter_yes, filter_no}
-use Rattle.daggy_reduction.specs.Blocks.{IsPlaced}
+use Rattle.daggy_reduction.specs.Blocks.{IsPlaced, LeadAtMost}
+use Rattle.daggy_reduction.specs.SearchSpan.{SpansAtMost}
 use Rattle.daggy_redundant.proofs.FlaggedRedundant.{joined_exist}
 use Rattle.daggy_redundant.proofs.Paths.{reaches_one}
 use Rattle.daggy_redundant.proofs.QueueProgress.{take_none}
@@ -62,6 +63,108 @@ filter_places p (x ∷ xs) u v pu pv h =
     go below nu nv false is =
         let P : List ℕ → Type 0 = λ z. place z u < place z v in
         subst P (sym (filter_no p x xs (sym is))) below
+
+filter_before : (p : ℕ → Bool) (xs : List ℕ) (v : ℕ) → p v ≡ true → place (filter p xs) v ≤ place xs v
+filter_before p [] v pv = omega arith
+filter_before p (x ∷ xs) v pv =
+    elim (cases_eq x v) [
+      | inl e ↦
+          omega (
+            arith,
+            ap (λ (z : List ℕ). place z v) (filter_yes p x xs (ap p e ∙ pv)),
+            place_same x v (filter p xs) e,
+          )
+      | inr nv ↦ go nv (filter_before p xs v pv) (p x) refl
+    ]
+  where
+    go : x ≢ v → place (filter p xs) v ≤ place xs v → (b : Bool) → b ≡ p x
+        → place (filter p (x ∷ xs)) v ≤ place (x ∷ xs) v
+    go nv rest true is =
+        omega (
+          arith,
+          ap (λ (z : List ℕ). place z v) (filter_yes p x xs (sym is)),
+          place_other x v (filter p xs) nv,
+          place_other x v xs nv,
+          rest,
+        )
+    go nv rest false is =
+        omega (
+          arith,
+          ap (λ (z : List ℕ). place z v) (filter_no p x xs (sym is)),
+          place_other x v xs nv,
+          rest,
+        )
+
+-- and they stand no farther apart
+filter_nearer : (p : ℕ → Bool) (xs : List ℕ) (u v : ℕ) → p u ≡ true → p v ≡ true → place xs u < place xs v
+    → place (filter p xs) v + place xs u ≤ place (filter p xs) u + place xs v
+filter_nearer p [] u v pu pv h = absurd (omega (arith, h))
+filter_nearer p (x ∷ xs) u v pu pv h =
+    elim (cases_eq x v) [
+      | inl e ↦ absurd (omega (arith, h, place_same x v xs e))
+      | inr nv ↦ elim (cases_eq x u) [
+        | inl e ↦
+            omega (
+              arith,
+              ap (λ (z : List ℕ). place z u) (filter_yes p x xs (ap p e ∙ pu)),
+              place_same x u (filter p xs) e,
+              place_same x u xs e,
+              ap (λ (z : List ℕ). place z v) (filter_yes p x xs (ap p e ∙ pu)),
+              place_other x v (filter p xs) nv,
+              place_other x v xs nv,
+              filter_before p xs v pv,
+            )
+        | inr nu ↦
+            go nu nv
+            (filter_nearer p xs u v pu pv (omega (arith, h, place_other x u xs nu, place_other x v xs nv))) (p x) refl
+      ]
+    ]
+  where
+    go : x ≢ u → x ≢ v → place (filter p xs) v + place xs u ≤ place (filter p xs) u + place xs v → (b : Bool) → b ≡ p x
+        → place (filter p (x ∷ xs)) v + place (x ∷ xs) u ≤ place (filter p (x ∷ xs)) u + place (x ∷ xs) v
+    go nu nv rest true is =
+        omega (
+          arith,
+          rest,
+          ap (λ (z : List ℕ). place z u) (filter_yes p x xs (sym is)),
+          ap (λ (z : List ℕ). place z v) (filter_yes p x xs (sym is)),
+          place_other x u (filter p xs) nu,
+          place_other x v (filter p xs) nv,
+          place_other x u xs nu,
+          place_other x v xs nv,
+        )
+    go nu nv rest false is =
+        omega (
+          arith,
+          rest,
+          ap (λ (z : List ℕ). place z u) (filter_no p x xs (sym is)),
+          ap (λ (z : List ℕ). place z v) (filter_no p x xs (sym is)),
+          place_other x u xs nu,
+          place_other x v xs nv,
+        )
+
+-- so their edges lead no farther on
+pub filter_spans : {N E : Type 0} {g : Graph N E} (p : ℕ → Bool) {order nodes places : List ℕ} → IsOrderOf g order
+    → nodes ≡ filter p order → IsPlaced g nodes places → (d : ℕ) → SpansAtMost g order d → LeadAtMost g nodes places d
+filter_spans p {order} {nodes} {places} ord is pl d all u v c j =
+    let cv = pl.closed u v c j in
+    omega (
+      arith,
+      place_is u c,
+      place_is v cv,
+      ap (λ (z : List ℕ). place z u) is,
+      ap (λ (z : List ℕ). place z v) is,
+      filter_nearer p order u v (passes u c) (passes v cv) (ord.sorted u v j),
+      all u v j,
+    )
+  where
+    passes : (n : ℕ) → Contains nodes n → p n ≡ true
+    passes n there = (filter_mem p order n (subst (Mem n) is (contains_mem nodes n there))).1
+
+    place_is : (n : ℕ) → Contains nodes n → get_or places n 0 ≡ place nodes n
+    place_is n there =
+        let a = place_at nodes n (contains_mem nodes n there) in
+        ap (λ z. get_or places z 0) (sym a.1) ∙ pl.at (place nodes n) a.0
 
 -- the members of a list that pass a test
 pub filter_exact : (p : ℕ → Bool) (xs : List ℕ) {Part : ℕ → Type 0} → ((n : ℕ) → (p n ≡ true) ↔ Part n)

@@ -1,6 +1,6 @@
 -- Sums of counts along an order, and the spans that they tell.
 use Rattle.std.proofs.Common.{◌≡◌, ℕ, ◌+◌, ◌<◌, ◌≤◌, zero, suc, inl, inr, List, [], ◌∷◌, ◌++◌, length, get_or, set}
-use Rattle.std.proofs.Common.{take, drop, is_some, refl, sym, ap, subst, ◌∙◌, arith, append_assoc, append-nil}
+use Rattle.std.proofs.Common.{take, drop, is_some, refl, sym, ap, subst, ◌∙◌, arith, append_assoc, append-nil, length-append}
 use Rattle.std.proofs.lemmas.Bool.{cases_eq}
 use Rattle.std.proofs.lemmas.List.{get_or-set_same, get_or-set_other, take_at}
 use Rattle.std.proofs.lemmas.List.Sums.{count_by-le-length}
@@ -136,12 +136,14 @@ module _ {order : List ℕ} (done : List ℕ) {rest rest' : List ℕ} (whole : o
         let P : List ℕ → Type 0 = λ z. Unique z in
         unique_cross done (n ∷ rest') (subst P whole_is once) n m (inl refl)
 
+    pub place_next : place order n ≡ length done
+    place_next =
+        ap (λ z. place z n) whole_is ∙ place_right done (n ∷ rest') n next_new
+        ∙ omega (arith, place_same n n rest' refl)
+
     pub before_next : take (place order n) order ≡ done
     before_next =
-        let at : place order n ≡ length done =
-        ap (λ z. place z n) whole_is ∙ place_right done (n ∷ rest') n next_new
-        ∙ omega (arith, place_same n n rest' refl) in
-        ap (λ z. take (place order n) z) whole_is ∙ take_at done (n ∷ rest') (place order n) (sym at)
+        ap (λ z. take (place order n) z) whole_is ∙ take_at done (n ∷ rest') (place order n) (sym place_next)
 
 module _ {counts order rest cursors : List ℕ} {sum : ℕ} (once : Unique order)
     (s : Summing counts order rest cursors sum) (n : ℕ) {rest' : List ℕ} (next : rest ≡ n ∷ rest') where
@@ -223,3 +225,50 @@ module _ {N E : Type 0} {g : Graph N E} {order : List ℕ} where
   all_span s none =
       let is : order ≡ s.done = s.whole ∙ ap (λ z. s.done ++ z) none ∙ append-nil s.done in
       omega (arith, s.few, ap (all_spanned g order) is)
+
+-- places written so far
+pub record Numbering (order rest cursors : List ℕ) (k : ℕ) : Type 0 where
+  pub done : List ℕ
+  pub whole : order ≡ done ++ rest
+  pub count : k ≡ length done
+  pub places : (n : ℕ) → Mem n done → get_or cursors n 0 ≡ place order n
+
+pub number_start : (order rest cursors : List ℕ) → rest ≡ order → Numbering order rest cursors 0
+number_start order rest cursors is =
+    record { done = []; whole = sym is; count = refl; places = λ n m. absurd m }
+
+module _ {order rest cursors : List ℕ} {k : ℕ} (s : Numbering order rest cursors k) (n : ℕ) {rest' : List ℕ}
+    (next : rest ≡ n ∷ rest') where
+  pub number_few : k < length order
+  number_few =
+      omega (
+        arith,
+        s.count,
+        ap (λ (z : List ℕ). length z) (whole_is s.done s.whole n next),
+        length-append s.done (n ∷ rest'),
+      )
+
+  pub number_on : Unique order → n < length cursors → {cursors' : List ℕ} → cursors' ≡ set cursors n k
+      → Numbering order rest' cursors' (k + 1)
+  number_on once low {cursors'} put =
+      record {
+        done = s.done ++ n ∷ [];
+        whole = whole_next s.done s.whole n next;
+        count = omega (arith, s.count, length-append s.done (n ∷ []));
+        places = λ m h. elim (cases_eq m n) [
+          | inl here ↦
+              (let at : get_or cursors' n 0 ≡ place order n =
+              ap (λ z. get_or z n 0) put ∙ get_or-set_same cursors n k 0 low ∙ s.count
+              ∙ sym (place_next s.done s.whole n next once) in
+              rw here at)
+          | inr apart ↦ elim (mem_cases s.done (n ∷ []) m h) [
+            | inl old ↦ ap (λ z. get_or z m 0) put ∙ get_or-set_other cursors n m k 0 apart ∙ s.places m old
+            | inr new ↦ elim new [ inl e ↦ absurd (apart e) | inr none ↦ absurd none ]
+          ]
+        ];
+      }
+
+pub all_numbered : {order rest cursors : List ℕ} {k : ℕ} → Numbering order rest cursors k → rest ≡ [] → (n : ℕ)
+    → Mem n order → get_or cursors n 0 ≡ place order n
+all_numbered {order} {rest} s none n m =
+    s.places n (subst (Mem n) (s.whole ∙ ap (λ z. s.done ++ z) none ∙ append-nil s.done) m)

@@ -23,6 +23,16 @@ pub record IsPlaced {N E : Type 0} (g : Graph N E) (nodes places : List ℕ) : T
   pub closed : (u v : ℕ) → Contains nodes u → AreJoined g u v → Contains nodes v
   pub sorted : (u v : ℕ) → Contains nodes u → AreJoined g u v → slice_index places u < slice_index places v
 
+-- no edge leads from a node before the position first to the position low, or past it
+abbrev pub StayBefore : {N E : Type 0} → Graph N E → (nodes places : List ℕ) (first low : ℕ) → Type 0
+StayBefore g nodes places first low =
+    (u v : ℕ) → Contains nodes u → AreJoined g u v → slice_index places u < first → slice_index places v < low
+
+-- each edge that leaves one of the nodes leads at most d positions on
+abbrev pub LeadAtMost : {N E : Type 0} → Graph N E → (nodes places : List ℕ) (d : ℕ) → Type 0
+LeadAtMost g nodes places d =
+    (u v : ℕ) → Contains nodes u → AreJoined g u v → slice_index places v ≤ slice_index places u + d
+
 -- of the bits of a block, exactly those are set for which the test holds
 abbrev pub HasBits : (low high : ℕ) → (ℕ → Type 0) → List Bool → Type 0
 HasBits low high At row = (i : ℕ) → low + i < high → (slice_index_or row i false ≡ true) ↔ At i
@@ -50,9 +60,13 @@ pub record AreArcsOf {N E I : Type 0} (number : I → ℕ) (g : Graph N E) (plac
 abbrev pub segment_at : List Segment → ℕ → Segment
 segment_at segments k = slice_index_or segments k (record { begin = 0; end = 0 })
 
+-- how many arcs the segment of a node has
+abbrev pub segment_length : List Segment → ℕ → ℕ
+segment_length segments k = (segment_at segments k).end - (segment_at segments k).begin
+
 -- how many arcs the first segments have
 abbrev pub arcs_in : List Segment → (count : ℕ) → ℕ
-arcs_in segments count = sum_below (λ k. (segment_at segments k).end - (segment_at segments k).begin) count
+arcs_in segments count = sum_below (segment_length segments) count
 
 -- segments one after another
 pub record AreLaidOut (count total : ℕ) (segments : List Segment) : Type 0 where

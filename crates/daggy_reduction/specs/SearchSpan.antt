@@ -1,7 +1,8 @@
 -- How far the search for longer paths to the children of a node goes in an order.
-use Rattle.std.specs.Prelude.{ℕ, ◌+◌, max, Option, Some, None, List, [], ◌∷◌}
+use Rattle.std.specs.Prelude.{ℕ, ◌+◌, ◌≤◌, max, Option, Some, None, List, [], ◌∷◌}
 use Rattle.daggy_base.specs.Graph.{Graph, Edge, edge_at, out_list}
 use Rattle.daggy_base.specs.Ordered.{place, stretch, edges_from}
+use Rattle.daggy_base.specs.Path.{AreJoined}
 
 -- the position of an edge's child
 abbrev pub child_place : {E : Type 0} → (order : List ℕ) → Option (Edge E) → ℕ
@@ -25,3 +26,7 @@ edges_spanned g order u = edges_from g (stretch order (place order u) (last_plac
 abbrev pub all_spanned : {N E : Type 0} → Graph N E → (order us : List ℕ) → ℕ
 all_spanned g order [] = 0
 all_spanned g order (u ∷ us) = edges_spanned g order u + all_spanned g order us
+
+-- each edge leads at most d positions on in an order
+abbrev pub SpansAtMost : {N E : Type 0} → Graph N E → (order : List ℕ) (d : ℕ) → Type 0
+SpansAtMost g order d = (u v : ℕ) → AreJoined g u v → place order v ≤ place order u + d

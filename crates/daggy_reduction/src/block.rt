@@ -1,11 +1,12 @@
 //! The transitive closure of a block of nodes, by rows of bits, and the redundant edges into it.
-ghost use Rattle.std.specs.Prelude.{◌≡◌, ℕ, ◌+◌, ◌-◌, ◌*◌, ◌<◌, ◌≤◌, ◌↔◌, ◌⊎◌, [], true, false, map};
+ghost use Rattle.std.specs.Prelude.{◌≡◌, ℕ, ◌+◌, ◌-◌, ◌*◌, ◌<◌, ◌≤◌, ◌↔◌, ◌⊎◌, [], true, false, map, replicate};
 ghost use Rattle.std.specs.Prelude.{length, take, slice_index_or, slice_set, Contains};
-ghost use Rattle.daggy_base.specs.Graph.{node_bound, edge_bound, edge_count};
+ghost use Rattle.daggy_base.specs.Graph.{node_bound, edge_bound};
 ghost use Rattle.daggy_base.specs.WellFormed.{IsWellFormed};
 ghost use Rattle.daggy_redundant.specs.Flags.{IsFlagged};
 ghost use Rattle.daggy_reduction.specs.Blocks.{IsPlaced, HasBits, HasBit, IsIn, AreArcs, HasArcTo};
 ghost use Rattle.daggy_reduction.specs.Blocks.{ArePassedOn, MarksArcs, AreLeft, is_in_row, LeadsInto};
+ghost use Rattle.daggy_reduction.specs.Blocks.{segment_length, arcs_in, StayBefore, LeadAtMost};
 
 use crate::arcs::write_arc;
 use daggy_base::index::{EdgeIndex, IndexType};
@@ -20,11 +21,20 @@ struct Block {
     high: usize,
 }
 
-// The nodes of a block that a node reaches: its children, and those at the end of longer paths.
+// Where a block begins, and a position before which no node has a child in it or after it.
+#[derive(Clone, Copy, Drop)]
+pub(crate) struct Start {
+    pub low: usize,
+    pub first: usize,
+}
+
+// The nodes of a block that a node reaches: its children, and those at the end of longer paths. And
+// the position of a child after the block, or 0.
 #[derive(Drop)]
 struct Reached {
     direct: Row,
     indirect: Row,
+    beyond: usize,
 }
 
 // The block that begins at a position, of `count` positions in all.
@@ -45,6 +55,20 @@ fn block_at(low: usize, count: usize) -> Block
     Block { low, high }
 }
 
+// What a node without children reaches.
+#[inline]
+fn nothing_reached() -> Reached
+    ensures direct { result.direct ≡ replicate 512 false }
+    ensures indirect { result.indirect ≡ replicate 512 false }
+    ensures beyond { result.beyond ≡ 0 }
+{
+    Reached {
+        direct: Row::new(),
+        indirect: Row::new(),
+        beyond: 0,
+    }
+}
+
 // Adds a child at the position `p`, and the nodes in its row.
 #[inline]
 fn reach_over(reached: &mut Reached, p: usize, block: Block, rows: &[Row])
@@ -61,8 +85,11 @@ fn reach_over(reached: &mut Reached, p: usize, block: Block, rows: &[Row])
         → (slice_index_or reached.new.indirect i false ≡ true)
         ↔ ((slice_index_or reached.old.indirect i false ≡ true)
         ⊎ ((p < block.high) × HasBit rows.now p i)) }
+    ensures beyond { (block.high ≤ reached.new.beyond)
+        ↔ ((block.high ≤ reached.old.beyond) ⊎ (block.high ≤ p)) }
 {
     if p >= block.high {
+        reached.beyond = p;
         return;
     }
     if block.low <= p {
@@ -75,37 +102,39 @@ fn reach_over(reached: &mut Reached, p: usize, block: Block, rows: &[Row])
     reached.indirect.union_with(&rows[p]);
 }
 
-// The nodes of a block that a node reaches, from the rows of its children.
+// Puts the nodes of a block that a node reaches, from the rows of its children, into empty rows.
 fn reach_from<Ix: IndexType, S: EdgeSource<Ix>>(
     source: &mut S,
     arcs: &[Arc<Ix>],
     segment: Segment,
     block: Block,
     rows: &[Row],
-) -> Reached
+    reached: &mut Reached,
+)
     requires ordered { segment.begin ≤ segment.end }
     requires inside { segment.end ≤ length arcs.now }
     requires rows_fit { block.high ≤ length rows.now }
     requires few { block.high ≤ block.low + 512 }
+    requires some { 0 < block.high }
+    requires none_direct { reached.old.direct ≡ replicate 512 false }
+    requires none_indirect { reached.old.indirect ≡ replicate 512 false }
+    requires none_beyond { reached.old.beyond ≡ 0 }
     requires passed_on { ArePassedOn arcs.now segment block.low block.high rows.now }
     ensures direct { HasBits block.low block.high
-        (λ i. HasArcTo arcs.now segment (λ p. p ≡ block.low + i)) result.direct }
+        (λ i. HasArcTo arcs.now segment (λ p. p ≡ block.low + i)) reached.new.direct }
     ensures indirect { HasBits block.low block.high
         (λ i. HasArcTo arcs.now segment (λ p. (p < block.high) × HasBit rows.now p i))
-        result.indirect }
+        reached.new.indirect }
+    ensures beyond { (block.high ≤ reached.new.beyond)
+        ↔ HasArcTo arcs.now segment (λ p. block.high ≤ p) }
     ensures same { S.graph source.new ≡ S.graph source.old }
     ensures counted { S.looks source.new ≡ S.looks source.old + (segment.end - segment.begin) }
 {
-    let mut reached = Reached {
-        direct: Row::new(),
-        indirect: Row::new(),
-    };
     'arcs: for k in segment.begin..segment.end {
         let arc = arcs[k];
         let (place, _) = arc.look(source);
-        reach_over(&mut reached, place.index(), block, rows);
+        reach_over(reached, place.index(), block, rows);
     }
-    reached
 }
 
 // Whether a position is in a block and in the row.
@@ -202,28 +231,45 @@ fn union(reached: Reached) -> Row
     row
 }
 
-// Flags the redundant edges into the block that begins at the position `low`, of the first `count`
-// nodes of a worklist, takes them out of their segments, and returns where the block ends.
+// The position `k` of a node if it has a child after the block, and else `first`.
+#[inline]
+fn first_onward(first: usize, k: usize, block: Block, reached: &Reached) -> usize
+    ensures this { block.high ≤ reached.now.beyond → result ≡ k }
+    ensures other { reached.now.beyond < block.high → result ≡ first }
+{
+    if reached.beyond >= block.high {
+        k
+    } else {
+        first
+    }
+}
+
+// Flags the redundant edges into the block that begins at `start`, of the first `count` nodes of a
+// worklist, takes them out of their segments, and returns where the next block begins.
 //
-// The nodes before the end of the block get their rows from the last one to the first: each row is
-// the union of the children's rows and of the children themselves.
+// The nodes before the end of the block get their rows from the last one to the first that has a
+// child in the block or after it: each row is the union of the children's rows and of the children
+// themselves. No edge leads from an earlier node into the block, so none is redundant.
 pub(crate) fn flag_block<Ix: IndexType, S: EdgeSource<Ix>>(
     source: &mut S,
     work: &Worklist<Ix>,
     arcs: &mut [Arc<Ix>],
     segments: &mut [Segment],
-    low: usize,
+    start: Start,
     count: usize,
     rows: &mut [Row],
     flags: &mut [EdgeIndex<Ix>],
-) -> usize
+) -> Start
     requires well_formed { IsWellFormed Ix.greatest (S.graph source.old) }
     requires placed { IsPlaced (S.graph source.old)
         (take count work.now.nodes) work.now.cursors }
     requires listed { AreArcs Ix.number (S.graph source.old)
-        (take count work.now.nodes) work.now.cursors low arcs.old segments.old }
+        (take count work.now.nodes) work.now.cursors start.low arcs.old segments.old }
+    requires early { start.first ≤ start.low }
+    requires before { StayBefore (S.graph source.old)
+        (take count work.now.nodes) work.now.cursors start.first start.low }
     requires all { count ≤ length segments.old }
-    requires more { low < count }
+    requires more { start.low < count }
     requires within { count ≤ length work.now.nodes }
     requires places_fit { node_bound (S.graph source.old) ≤ length work.now.cursors }
     requires rows_fit { count ≤ length rows.old }
@@ -232,26 +278,36 @@ pub(crate) fn flag_block<Ix: IndexType, S: EdgeSource<Ix>>(
     ensures flagged { (e : ℕ) → IsFlagged Ix.greatest (map Ix.number flags.new) e
         ↔ (IsFlagged Ix.greatest (map Ix.number flags.old) e
         ⊎ LeadsInto (S.graph source.old)
-        (take count work.now.nodes) work.now.cursors low result e) }
+        (take count work.now.nodes) work.now.cursors start.low result.low e) }
     ensures listed { AreArcs Ix.number (S.graph source.old)
-        (take count work.now.nodes) work.now.cursors result arcs.new segments.new }
-    ensures some { low < result }
-    ensures last { result ≤ count }
-    ensures full { result < count → result ≡ low + 512 }
+        (take count work.now.nodes) work.now.cursors result.low arcs.new segments.new }
+    ensures some { start.low < result.low }
+    ensures last { result.low ≤ count }
+    ensures few { result.low ≤ start.low + 512 }
+    ensures full { result.low < count → result.low ≡ start.low + 512 }
+    ensures early { result.first ≤ result.low }
+    ensures before { StayBefore (S.graph source.old)
+        (take count work.now.nodes) work.now.cursors result.first result.low }
+    ensures near { (d : ℕ) → LeadAtMost (S.graph source.old)
+        (take count work.now.nodes) work.now.cursors d → result.low ≤ result.first + d }
     ensures looked { S.looks source.old ≤ S.looks source.new }
-    ensures counted { S.looks source.new
-        ≤ S.looks source.old + 2 * edge_count (S.graph source.old) }
+    ensures counted { S.looks source.new + 2 * arcs_in segments.old start.first
+        ≤ S.looks source.old + 2 * arcs_in segments.old result.low }
     ensures rows_kept { length rows.new ≡ length rows.old }
     ensures segments_kept { length segments.new ≡ length segments.old }
+    ensures shorter { (k : ℕ) → segment_length segments.new k ≤ segment_length segments.old k }
     ensures kept { length flags.new ≡ length flags.old }
 {
     let _ = work;
-    let block = block_at(low, count);
+    let block = block_at(start.low, count);
+    let mut first = block.high;
     let mut k = block.high;
-    'nodes: while k > 0 {
+    'nodes: while k > start.first {
         k -= 1;
         let segment = segments[k];
-        let reached = reach_from(source, arcs, segment, block, rows);
+        let mut reached = nothing_reached();
+        reach_from(source, arcs, segment, block, rows, &mut reached);
+        first = first_onward(first, k, block, &reached);
         let end = flag_indirect(source, arcs, segment, block, &reached, flags);
         segments[k] = Segment {
             begin: segment.begin,
@@ -259,5 +315,8 @@ pub(crate) fn flag_block<Ix: IndexType, S: EdgeSource<Ix>>(
         };
         rows[k] = union(reached);
     }
-    block.high
+    Start {
+        low: block.high,
+        first,
+    }
 }

@@ -9,9 +9,10 @@ ghost use Rattle.daggy_redundant.specs.Comparison.{IsAscending};
 ghost use Rattle.std.specs.Borrow.{sem};
 ghost use Rattle.daggy_redundant.specs.KeptRoom.{keeps_room};
 ghost use Rattle.daggy_reduction.specs.Blocks.{blocks_of};
+ghost use Rattle.daggy_reduction.specs.SearchSpan.{SpansAtMost};
 
 use crate::arcs::{AlongLists, ListArcs};
-use crate::block::flag_block;
+use crate::block::{Start, flag_block};
 use crate::placed::list_below;
 use daggy_base::index::{EdgeIndex, IndexType, NodeIndex};
 use daggy_base::link::Link;
@@ -58,6 +59,9 @@ fn flag_blocks<Ix: IndexType, S: EdgeSource<Ix>, L: ListArcs<Ix, S>>(
     ensures counted { S.looks source.new ≤ S.looks source.old
         + (2 * blocks_of (node_count (S.graph source.old)) + (L.passes + 1))
         * edge_count (S.graph source.old) }
+    ensures near { SpansAtMost (S.graph source.old) order.now 512
+        → S.looks source.new ≤ S.looks source.old
+        + (L.passes + 5) * edge_count (S.graph source.old) }
     ensures kept { work.new.size ≡ work.old.size }
     ensures arcs_kept { length arcs.new ≡ length arcs.old }
     ensures segments_kept { length segments.new ≡ length segments.old }
@@ -68,9 +72,9 @@ fn flag_blocks<Ix: IndexType, S: EdgeSource<Ix>, L: ListArcs<Ix, S>>(
     unflag(flags);
     let count = list_below(source, order, roots, work);
     L::list_arcs(source, work, count, arcs, segments);
-    let mut low = 0;
-    'sweep: while low < count {
-        low = flag_block(source, work, arcs, segments, low, count, rows, flags);
+    let mut start = Start { low: 0, first: 0 };
+    'sweep: while start.low < count {
+        start = flag_block(source, work, arcs, segments, start, count, rows, flags);
     }
 }
 
@@ -95,6 +99,9 @@ pub(crate) fn leave_redundant_by_blocks<Ix: IndexType, S: EdgeSource<Ix>, L: Lis
     ensures counted { S.looks source.new ≤ S.looks source.old
         + (2 * blocks_of (node_count (S.graph source.old)) + (L.passes + 1))
         * edge_count (S.graph source.old) }
+    ensures near { SpansAtMost (S.graph source.old) order.now 512
+        → S.looks source.new ≤ S.looks source.old
+        + (L.passes + 5) * edge_count (S.graph source.old) }
     ensures nodes_kept { scratch.new.nodes ≡ scratch.old.nodes }
     ensures edges_kept { scratch.new.edges ≡ scratch.old.edges }
     ensures rows_kept { scratch.new.rows ≡ scratch.old.rows }

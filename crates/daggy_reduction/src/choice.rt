@@ -1,16 +1,16 @@
 //! Whether redundant edges are found by searches or by blocks.
-ghost use Rattle.std.specs.Prelude.{◌≡◌, ℕ, ◌+◌, ◌*◌, ◌<◌, ◌≤◌, ◌↔◌, map, length, take, Contains, IsTrue};
+ghost use Rattle.std.specs.Prelude.{◌≡◌, ℕ, ◌+◌, ◌*◌, ◌<◌, ◌≤◌, ◌↔◌, ◌⊎◌, map, length, take, Contains, IsTrue};
 ghost use Rattle.daggy_base.specs.Graph.{node_bound, edge_bound, node_count, edge_count};
 ghost use Rattle.daggy_base.specs.Ordered.{IsOrderOf};
 ghost use Rattle.daggy_base.specs.Reduction.{IsRedundant};
 ghost use Rattle.daggy_redundant.specs.Comparison.{IsAscending};
-ghost use Rattle.daggy_reduction.specs.SearchSpan.{all_spanned};
+ghost use Rattle.daggy_reduction.specs.SearchSpan.{all_spanned, SpansAtMost};
 ghost use Rattle.daggy_reduction.specs.Blocks.{blocks_of};
 
 use crate::arcs::ByIndex;
 use crate::blocks::leave_redundant_by_blocks;
 use crate::bounded::leave_redundant_in;
-use crate::spans::spanned;
+use crate::spans::{is_near, spanned};
 use daggy_base::index::{IndexType, NodeIndex};
 use daggy_base::source::IndexedSource;
 use daggy_order::order::Order;
@@ -24,9 +24,10 @@ fn nodes_reached(nodes: usize, edges: usize) -> usize {
 }
 
 // Whether blocks take fewer edge reads than searches are expected to take. A search stays before
-// the last child of its node, and reaches about `nodes_reached` nodes if there are as many. Blocks
-// are not for fewer than four nodes, where the passes that list the edges read more edges than
-// searches do.
+// the last child of its node, and reaches about `nodes_reached` nodes if there are as many. The
+// blocks read each edge at most twice for each block, and at most four times if each edge leads at
+// most a block's length on. They are not for fewer than four nodes, where the passes that list the
+// edges read more edges than searches do.
 fn blocks_pay<Ix: IndexType, S: IndexedSource<Ix>>(
     source: &mut S,
     order: &Order<Ix>,
@@ -40,8 +41,11 @@ fn blocks_pay<Ix: IndexType, S: IndexedSource<Ix>>(
     requires edges_are { edges ≡ edge_count (S.graph source.old) }
     ensures same { S.graph source.new ≡ S.graph source.old }
     ensures many { IsTrue result → 4 ≤ node_count (S.graph source.old) }
-    ensures fewer { IsTrue result → 2 * blocks_of (node_count (S.graph source.old))
-        * edge_count (S.graph source.old) ≤ all_spanned (S.graph source.old) order.now order.now }
+    ensures fewer { IsTrue result → (2 * blocks_of (node_count (S.graph source.old))
+        * edge_count (S.graph source.old) ≤ all_spanned (S.graph source.old) order.now order.now)
+        ⊎ (SpansAtMost (S.graph source.old) order.now 512
+        × (4 * edge_count (S.graph source.old)
+        ≤ all_spanned (S.graph source.old) order.now order.now)) }
     ensures looked { S.looks source.old ≤ S.looks source.new }
     ensures counted { S.looks source.new ≤ S.looks source.old + edge_count (S.graph source.old) }
     ensures unlooked { node_count (S.graph source.old) < 4 → S.looks source.new ≡ S.looks source.old }
@@ -51,7 +55,11 @@ fn blocks_pay<Ix: IndexType, S: IndexedSource<Ix>>(
     if nodes < 4 || edges.saturating_mul(nodes_reached(nodes, edges)) <= looks {
         return false;
     }
-    looks < spanned(source, order, work)
+    let most = spanned(source, order, work);
+    if looks < most {
+        return true;
+    }
+    edges.saturating_mul(4) < most && is_near(source, order, work)
 }
 
 // The same as `leave_redundant_in`, by blocks if they pay and there is memory for their rows.

@@ -6,7 +6,8 @@ ghost use Rattle.daggy_base.specs.Ordered.{IsOrderOf};
 ghost use Rattle.daggy_base.specs.Reduction.{IsBelow};
 ghost use Rattle.daggy_base.specs.WellFormed.{IsWellFormed, AreDistinct};
 ghost use Rattle.daggy_search.specs.Work.{IsSized};
-ghost use Rattle.daggy_reduction.specs.Blocks.{IsPlaced};
+ghost use Rattle.daggy_reduction.specs.Blocks.{IsPlaced, LeadAtMost};
+ghost use Rattle.daggy_reduction.specs.SearchSpan.{SpansAtMost};
 
 use daggy_base::index::{IndexType, NodeIndex};
 use daggy_base::link::Link;
@@ -84,6 +85,8 @@ pub(crate) fn list_below<Ix: IndexType, S: EdgeSource<Ix>>(
         ↔ IsBelow (S.graph source.old) (map Ix.number roots.now) n }
     ensures placed { IsPlaced (S.graph source.old)
         (take result work.new.nodes) work.new.cursors }
+    ensures near { (d : ℕ) → SpansAtMost (S.graph source.old) order.now d
+        → LeadAtMost (S.graph source.old) (take result work.new.nodes) work.new.cursors d }
     ensures few { result ≤ node_count (S.graph source.old) }
     ensures low { result ≤ node_bound (S.graph source.old) }
     ensures looked { S.looks source.old ≤ S.looks source.new }

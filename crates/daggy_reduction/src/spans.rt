@@ -1,19 +1,19 @@
 //! How many edges searches would read, computed from the endpoints of all edges.
-ghost use Rattle.std.specs.Prelude.{◌≡◌, ℕ, ◌+◌, ◌<◌, ◌≤◌, ◌⊎◌, length, take, Contains};
+ghost use Rattle.std.specs.Prelude.{◌≡◌, ◌≢◌, ℕ, ◌+◌, ◌<◌, ◌≤◌, ◌⊎◌, length, take, Contains, IsTrue};
 ghost use Rattle.std.specs.Prelude.{slice_index, slice_index_or, slice_set};
 ghost use Rattle.daggy_base.specs.Graph.{node_bound, edge_count, out_list};
 ghost use Rattle.daggy_base.specs.Path.{AreJoined};
 ghost use Rattle.daggy_base.specs.Ordered.{IsOrderOf, place};
 ghost use Rattle.daggy_base.specs.WellFormed.{AreDistinct};
 ghost use Rattle.daggy_search.specs.Work.{IsSized};
-ghost use Rattle.daggy_reduction.specs.SearchSpan.{all_spanned};
-ghost use Rattle.daggy_reduction.specs.Spans.{sum_at};
+ghost use Rattle.daggy_reduction.specs.SearchSpan.{all_spanned, SpansAtMost};
+ghost use Rattle.daggy_reduction.specs.Spans.{sum_at, AreLastChildren};
 
 use daggy_base::index::{EdgeIndex, IndexType, NodeIndex};
 use daggy_base::link::Link;
 use daggy_base::source::IndexedSource;
 use daggy_order::order::Order;
-use daggy_search::Worklist;
+use daggy_search::{BLOCK, Worklist};
 
 // Resets the nodes to `end`, and the cursors to 0.
 fn reset<Ix: IndexType>(work: &mut Worklist<Ix>)
@@ -44,12 +44,18 @@ fn note_edge<Ix: IndexType>(
     requires sized { IsSized work.old.size work.old }
     requires few { slice_index work.old.cursors (Ix.number a) < Ix.greatest }
     requires held { Contains order.now (Ix.number b) }
+    requires real { Ix.number b < Ix.greatest }
     requires last_held { (slice_index_or work.old.nodes (Ix.number a) Ix.greatest ≡ Ix.greatest)
         ⊎ Contains order.now (slice_index_or work.old.nodes (Ix.number a) Ix.greatest) }
     ensures counted { work.new.cursors ≡ slice_set work.old.cursors (Ix.number a)
         (slice_index work.old.cursors (Ix.number a) + 1) }
     ensures child { (work.new.nodes ≡ work.old.nodes)
         ⊎ (work.new.nodes ≡ slice_set work.old.nodes (Ix.number a) (Ix.number b)) }
+    ensures some { slice_index_or work.new.nodes (Ix.number a) Ix.greatest ≢ Ix.greatest }
+    ensures later { (v : ℕ)
+        → (v ≡ Ix.number b) ⊎ ((slice_index_or work.old.nodes (Ix.number a) Ix.greatest ≡ v) × (v ≢ Ix.greatest))
+        → place order.now v
+        ≤ place order.now (slice_index_or work.new.nodes (Ix.number a) Ix.greatest) }
     ensures kept { IsSized work.old.size work.new }
 {
     let i = a.index();
@@ -74,6 +80,7 @@ fn note_edges<Ix: IndexType, S: IndexedSource<Ix>>(
         → slice_index work.new.cursors n ≤ length (out_list (S.graph source.old) n) }
     ensures children { (n : ℕ) → (slice_index_or work.new.nodes n Ix.greatest ≡ Ix.greatest)
         ⊎ AreJoined (S.graph source.old) n (slice_index_or work.new.nodes n Ix.greatest) }
+    ensures last { AreLastChildren (S.graph source.old) order.now Ix.greatest work.new.nodes }
     ensures looked { S.looks source.old ≤ S.looks source.new }
     ensures counted { S.looks source.new ≤ S.looks source.old + edge_count (S.graph source.old) }
     ensures kept { IsSized work.old.size work.new }
@@ -112,7 +119,8 @@ fn sum_before<Ix: IndexType>(order: &Order<Ix>, work: &mut Worklist<Ix>)
 }
 
 // The sum, over all nodes, of the number of edges that leave the nodes from that node up to its
-// last child; the greatest number if the sum is greater.
+// last child; the greatest number if the sum is greater. The nodes of the worklist become the last
+// children.
 pub(crate) fn spanned<Ix: IndexType, S: IndexedSource<Ix>>(
     source: &mut S,
     order: &Order<Ix>,
@@ -122,9 +130,10 @@ pub(crate) fn spanned<Ix: IndexType, S: IndexedSource<Ix>>(
     requires fits { node_bound (S.graph source.old) ≤ work.old.size }
     ensures same { S.graph source.new ≡ S.graph source.old }
     ensures most { result ≤ all_spanned (S.graph source.old) order.now order.now }
+    ensures last { AreLastChildren (S.graph source.old) order.now Ix.greatest work.new.nodes }
     ensures looked { S.looks source.old ≤ S.looks source.new }
     ensures counted { S.looks source.new ≤ S.looks source.old + edge_count (S.graph source.old) }
-    ensures kept { work.new.size ≡ work.old.size }
+    ensures kept { IsSized work.old.size work.new }
 {
     let _well_formed = source.node_bound();
     note_edges(source, order, work);
@@ -139,4 +148,49 @@ pub(crate) fn spanned<Ix: IndexType, S: IndexedSource<Ix>>(
         }
     }
     sum
+}
+
+// Makes the position of each node its cursor.
+fn number_nodes<Ix: IndexType>(order: &Order<Ix>, work: &mut Worklist<Ix>)
+    requires distinct { AreDistinct order.now }
+    requires low { (n : ℕ) → Contains order.now n → n < work.old.size }
+    requires few { length order.now ≤ Ix.greatest }
+    requires sized { IsSized work.old.size work.old }
+    ensures places { (n : ℕ)
+        → Contains order.now n → slice_index work.new.cursors n ≡ place order.now n }
+    ensures same { work.new.nodes ≡ work.old.nodes }
+    ensures kept { IsSized work.old.size work.new }
+{
+    let mut k = 0;
+    'nodes: for n in order.nodes() {
+        work.put_cursor(n.index(), Link::new(k));
+        k += 1;
+    }
+}
+
+// Whether each edge leads at most a block's length on. The nodes of the worklist are the last
+// children. Out of line, since few graphs are asked.
+#[inline(never)]
+pub(crate) fn is_near<Ix: IndexType, S: IndexedSource<Ix>>(
+    source: &S,
+    order: &Order<Ix>,
+    work: &mut Worklist<Ix>,
+) -> bool
+    requires ordered { IsOrderOf (S.graph source.now) order.now }
+    requires fits { node_bound (S.graph source.now) ≤ work.old.size }
+    requires sized { IsSized work.old.size work.old }
+    requires last { AreLastChildren (S.graph source.now) order.now Ix.greatest work.old.nodes }
+    ensures near { IsTrue result → SpansAtMost (S.graph source.now) order.now 512 }
+    ensures kept { work.new.size ≡ work.old.size }
+{
+    let _well_formed = source.node_bound();
+    number_nodes(order, work);
+    let end = Link::<Ix>::end().index();
+    'nodes: for i in 0..work.len() {
+        let last = work.node(i).index();
+        if last != end && work.cursor(last).index() - work.cursor(i).index() > BLOCK {
+            return false;
+        }
+    }
+    true
 }

@@ -54,8 +54,9 @@ where
     ///
     /// One search for each node that the roots reach, which stays before the node's last child in
     /// the dag's order; or, where that is expected to read more edges, O(nodes * edges / 512) steps
-    /// of 512 bits each, with 80 bytes of memory for each node and, with `u32` indices, 12 bytes
-    /// for each edge; the dag keeps this memory. Then the cost of the removals.
+    /// of 512 bits each, and O(edges) of them if each edge leads at most 512 places on in that
+    /// order, with 80 bytes of memory for each node and, with `u32` indices, 12 bytes for each
+    /// edge; the dag keeps this memory. Then the cost of the removals.
     ///
     /// # Examples
     ///

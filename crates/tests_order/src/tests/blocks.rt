@@ -1,4 +1,6 @@
-//! Redundant edges of chains with about as many nodes as a block has, by searches and by blocks.
+//! Redundant edges of chains with about as many nodes as a block has, and of a graph of several
+//! blocks whose edges lead only a few nodes on, by searches and by blocks.
+use super::random::Random;
 use super::support::{holds, made, same};
 use daggy_base::index::{EdgeIndex, NodeIndex};
 use daggy_base::source::EdgeSource;
@@ -7,6 +9,8 @@ use daggy_graph::graph::DiGraph;
 use daggy_order::order::Order;
 use daggy_reduction::blocks::redundant_edges_by_blocks;
 use daggy_reduction::bounded::redundant_edges_in;
+use daggy_reduction::reduce::transitive_reduce;
+use daggy_redundant::redundant::redundant_edges;
 use daggy_search::Scratch;
 use daggy_stable::stable_graph::StableDiGraph;
 use std::alloc::Global;
@@ -134,4 +138,62 @@ fn a_chain_around_vacant_slots_is_searched_by_blocks(rt: HostRuntime) {
         let _weight = graph.remove_node(NodeIndex::new(7 * k));
     }
     check_chain(&rt, rt.alloc(), &mut graph, 515);
+}
+
+// Adds five edges into each node but the first, from nodes at most 50 before it.
+fn add_local_edges<S: Store<u16, NodeWeight = u32, EdgeWeight = u32>>(
+    rt: &impl Abort,
+    store: &mut S,
+) {
+    let mut random = Random::new(1);
+    for i in 1..store.node_bound() {
+        holds(rt, i < 65535);
+        let child = NodeIndex::new(i);
+        for _ in 0..5 {
+            let parent = NodeIndex::new(i.saturating_sub(1 + random.below(50)));
+            add_edge(rt, store, parent, child);
+        }
+    }
+}
+
+// Asserts that the edges that a plain search finds redundant are found by blocks, whether edges are
+// listed along the lists of the store or by index, and returns how many stay.
+fn reduce_by_blocks<S: Store<u16, NodeWeight = u32, EdgeWeight = u32>>(
+    rt: &impl Abort,
+    alloc: Global,
+    store: &mut S,
+    root: NodeIndex<u16>,
+) -> usize {
+    let (nodes, edges) = (store.node_bound(), store.edge_bound());
+    let mut scratch = Scratch::new(alloc);
+    made(rt, scratch.reserve(nodes, edges));
+    made(rt, scratch.reserve_rows(nodes));
+    let order = match made(rt, Order::sorted(alloc, store, &mut scratch)) {
+        Some(order) => order,
+        None => panic!(rt; "no edge leads back"),
+    };
+    let roots = [root];
+    let wanted = made(
+        rt,
+        redundant_edges(&mut scratch, store, &roots).to_vec(alloc),
+    );
+    let found = redundant_edges_by_blocks(&mut scratch, store, &order, &roots);
+    same(rt, found, wanted.as_slice());
+    let before = store.edge_count();
+    made(rt, transitive_reduce(store, &order, &mut scratch, &roots));
+    let after = store.edge_count();
+    same(rt, before.saturating_sub(after), wanted.len());
+    for e in wanted {
+        holds(rt, !store.contains_edge_index(e));
+    }
+    after
+}
+
+#[test]
+fn local_edges_are_searched_by_blocks(rt: HostRuntime) {
+    let mut graph: StableDiGraph<u32, u32, u16> = StableDiGraph::new(rt.alloc());
+    add_nodes(&rt, &mut graph, 1600);
+    add_local_edges(&rt, &mut graph);
+    let kept = reduce_by_blocks(&rt, rt.alloc(), &mut graph, NodeIndex::new(0));
+    same(&rt, kept, 4805);
 }

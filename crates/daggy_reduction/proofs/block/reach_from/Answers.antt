@@ -1,6 +1,7 @@
-use Rattle.std.proofs.Common.{◌≡◌, ◌+◌, ◌<◌, length, refl, ◌∙◌, arith}
+use Rattle.std.proofs.Common.{◌≡◌, ◌+◌, ◌<◌, ◌≤◌, length, refl, ◌∙◌, arith}
 use Rattle.daggy_reduction.specs.Blocks.{HasBit}
 use Rattle.daggy_reduction.proofs.PassedArcs.{bits_start, bits_on, bits_done, reached_passes}
+use Rattle.daggy_reduction.proofs.PassedArcs.{found_start, found_on, found_done}
 use Rattle.daggy_reduction.proofs.block.reach_from.Goals as goal
 
 pub arcs-init : goal.arcs-init
@@ -8,10 +9,13 @@ arcs-init g c =
     record {
       direct =
           bits_start c.args.arcs.now c.args.segment c.args.block.low c.args.block.high
-          (λ i p. p ≡ c.args.block.low + i) 512 c.new.ensures;
+          (λ i p. p ≡ c.args.block.low + i) 512 c.requires.none_direct;
       indirect =
           bits_start c.args.arcs.now c.args.segment c.args.block.low c.args.block.high
-          (λ i p. (p < c.args.block.high) × HasBit c.args.rows.now p i) 512 c.new-2.ensures;
+          (λ i p. (p < c.args.block.high) × HasBit c.args.rows.now p i) 512 c.requires.none_indirect;
+      beyond =
+          found_start c.args.arcs.now c.args.segment (λ p. c.args.block.high ≤ p) _
+          (λ past. omega (arith, past, c.requires.some, c.requires.none_beyond));
       same = refl;
       counted = omega arith;
     }
@@ -41,6 +45,9 @@ arcs-preserved g c =
           c.args.block.high c.index.result place
           (λ i p. (p < c.args.block.high) × HasBit c.args.rows.now p i) c.arcs.reached.indirect
           c.reach_over.new.reached.indirect c.arcs.invariant.indirect c.reach_over.ensures.indirect;
+      beyond =
+          found_on c.args.arcs.now c.args.segment c.arcs.k x from till c.index-arcs-k.is c.index.result place
+          (λ p. c.args.block.high ≤ p) _ _ c.arcs.invariant.beyond c.reach_over.ensures.beyond;
       same = c.look-place.ensures.same ∙ c.arcs.invariant.same;
       counted = omega (arith, c.look-place.ensures.counted, c.arcs.invariant.counted, from);
     }
@@ -56,3 +63,12 @@ returns-clause-indirect g c =
     bits_done c.args.arcs.now c.args.segment c.arcs.k (omega (arith, c.arcs-test.false, c.arcs.auto.k-end, c.requires.ordered))
     c.args.block.low c.args.block.high (λ i p. (p < c.args.block.high) × HasBit c.args.rows.now p i) c.arcs.reached.indirect
     c.arcs.invariant.indirect
+
+pub returns-clause-beyond : goal.returns-clause-beyond
+returns-clause-beyond g c =
+    found_done c.args.arcs.now c.args.segment c.arcs.k (omega (arith, c.arcs-test.false, c.arcs.auto.k-end, c.requires.ordered))
+    (λ p. c.args.block.high ≤ p) _ c.arcs.invariant.beyond
+
+pub returns-clause-counted : goal.returns-clause-counted
+returns-clause-counted g c =
+    omega (arith, c.arcs.invariant.counted, c.arcs-test.false, c.arcs.auto.k-end, c.requires.ordered)

@@ -1,8 +1,8 @@
 use Rattle.std.proofs.Common.{ℕ, ◌<◌, sym, subst, inl, inr, arith, Contains}
-use Rattle.daggy_base.proofs.EdgeEnds.{edge_here, no_edge_here, parent_low}
+use Rattle.daggy_base.proofs.EdgeEnds.{edge_here, no_edge_here, parent_low, child_low}
 use Rattle.daggy_base.proofs.PathsWithNode.{bound_low}
 use Rattle.daggy_search.specs.Work.{IsSized}
-use Rattle.daggy_reduction.proofs.NotedEdges.{none_noted, passed, few, degree, noted}
+use Rattle.daggy_reduction.proofs.NotedEdges.{none_noted, passed, few, degree, noted, last_start, last_on, last_gap, all_last}
 use Rattle.daggy_reduction.proofs.SeenEdges.{seen_start, seen_edge, seen_gap, seen_all}
 use Rattle.daggy_reduction.proofs.spans.note_edges.Given.{Over}
 use Rattle.daggy_reduction.proofs.spans.note_edges.Goals.{In-edges, in-Some, in_default}
@@ -26,6 +26,9 @@ edges-init g c =
       noted =
           none_noted (g.S.EdgeSource.graph c.args.source.now) g.Ix.IndexType.greatest c.reset.new.work.cursors
           c.reset.new.work.nodes c.reset.ensures.cursors c.reset.ensures.nodes;
+      last =
+          last_start (g.S.EdgeSource.graph c.args.source.now) c.args.order.now g.Ix.IndexType.greatest
+          c.reset.new.work.nodes;
       seen = seen_start (g.S.EdgeSource.graph c.args.source.now) (g.S.EdgeSource.looks c.args.source.now);
     }
 
@@ -60,6 +63,20 @@ note_edge-requires-clause-held g c =
     let P : ℕ → Type 0 = λ z. Contains c.args.order.now z in
     subst P (sym child) ((c.requires.ordered.exact x.child).1 (w.children c.edges.e x at))
 
+pub note_edge-requires-clause-real : goal.note_edge-requires-clause-real
+note_edge-requires-clause-real g c =
+    let s = c.edges.invariant.seen in
+    let (x, at, parent, child) =
+    edge_here (g.S.EdgeSource.graph c.args.source.now) _ c.edges.e _ c.new.ensures.number
+    (rw s.same at c.in-Some.ensures.gives) in
+    omega (
+      arith,
+      child,
+      child_low c.node_bound-well_formed.ensures.well_formed c.edges.e x at,
+      bound_low (g.S.EdgeSource.graph c.args.source.now).nodes,
+      c.node_bound-well_formed.ensures.well_formed.few_nodes,
+    )
+
 pub note_edge-requires-clause-last_held : goal.note_edge-requires-clause-last_held
 note_edge-requires-clause-last_held g c =
     let graph = g.S.EdgeSource.graph c.args.source.now in
@@ -87,6 +104,9 @@ edges-preserved g c =
                 noted w s.noted x at (omega (arith, inside, c.requires.fits, s.sized.cursors_are))
                 (omega (arith, inside, c.requires.fits, s.sized.nodes_are)) (rw (← parent) b.note_edge.ensures.counted)
                 (rw (← parent, ← child) b.note_edge.ensures.child);
+            last =
+                last_on s.last x at (rw (← parent, ← child) b.note_edge.ensures.child)
+                (rw (← parent) b.note_edge.ensures.some) (rw (← parent, ← child) b.note_edge.ensures.later);
             seen = seen_edge s.seen b.in-Some.ensures.same x at b.in-Some.ensures.counted;
           }
       | in_default b ↦
@@ -95,6 +115,7 @@ edges-preserved g c =
           rw b.work-is record {
             sized = s.sized;
             noted = passed s.noted;
+            last = last_gap s.last none;
             seen = seen_gap s.seen b.in_default.ensures.same none b.in_default.ensures.missing;
           }
     ]
@@ -104,6 +125,12 @@ returns-clause-degrees g c = λ n. degree (c.edges.invariant.noted n)
 
 pub returns-clause-children : goal.returns-clause-children
 returns-clause-children g c = λ n. (c.edges.invariant.noted n).child
+
+pub returns-clause-last : goal.returns-clause-last
+returns-clause-last g c =
+    all_last c.edges.invariant.last
+    (omega (arith, c.edges-test.false, c.edge_bound-bound.ensures))
+    (λ n. (c.edges.invariant.noted n).child)
 
 pub returns-clause-counted : goal.returns-clause-counted
 returns-clause-counted g c = seen_all c.edges.invariant.seen
