@@ -19,6 +19,15 @@ fn edges_sum(document: &Value) -> u64 {
     sum
 }
 
+// A number of the bytes of a text.
+fn bytes_sum(text: &[u8]) -> u64 {
+    let mut sum = 0u64;
+    for byte in text {
+        sum = mixed(sum, u64::from(*byte));
+    }
+    sum
+}
+
 /// Writing a dag.
 pub fn json_write<G: Kind, R: AllocGlobal + CpuClock>(rt: &R, sizes: Sizes) -> io::Result<Figures> {
     let dag = sorted::<G>(rt.alloc(), sizes)?;
@@ -42,10 +51,20 @@ pub fn json_stream<G: Kind, R: AllocGlobal + CpuClock>(
         let start = rt.process_cpu_time()?;
         dag.write_document(&mut text)?;
         let time = since(rt, start)?;
-        let mut check = 0u64;
-        for byte in &text {
-            check = mixed(check, u64::from(*byte));
-        }
+        let check = bytes_sum(text.as_slice());
+        Ok(Figures { time, check })
+    })
+}
+
+/// Writing the text without the orders.
+pub fn json_short<G: Kind, R: AllocGlobal + CpuClock>(rt: &R, sizes: Sizes) -> io::Result<Figures> {
+    let dag = sorted::<G>(rt.alloc(), sizes)?;
+    median(rt.alloc(), sizes.reps, || {
+        let mut text = Vec::new(rt.alloc());
+        let start = rt.process_cpu_time()?;
+        dag.write_short_document(&mut text)?;
+        let time = since(rt, start)?;
+        let check = bytes_sum(text.as_slice());
         Ok(Figures { time, check })
     })
 }

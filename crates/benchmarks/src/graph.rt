@@ -3,6 +3,7 @@ use crate::questions::{breadth_first, depth_first, in_postorder};
 use crate::schedules::{as_ready, duration};
 use daggy::json::{
     StreamError, dag_from_json, dag_to_json, stable_from_json, stable_to_json, write_json,
+    write_short_json,
 };
 use daggy::run::{Plan, plan};
 use daggy::schedule::Schedule;
@@ -112,6 +113,9 @@ pub trait Kind: Graph {
     /// Writes the text of that value.
     fn write_document<W: Write>(&self, out: &mut W) -> io::Result<()>;
 
+    /// Writes the text without the orders of its lists.
+    fn write_short_document<W: Write>(&self, out: &mut W) -> io::Result<()>;
+
     /// The dag that a value is read as. The error says that it was refused.
     fn of_document(alloc: Global, document: &Value) -> Result<Self, AllocError>;
 }
@@ -149,11 +153,9 @@ fn written(weight: &i64) -> Result<Value, AllocError> {
     Ok(Value::from(*weight))
 }
 
-fn stream<S: Store<u32, NodeWeight = i64, EdgeWeight = i64>, W: Write>(
-    dag: &Acyclic<i64, i64, u32, S>,
-    out: &mut W,
-) -> io::Result<()> {
-    match write_json(dag, out, written, written) {
+// The error of the writer, if there is one.
+fn answered(answer: Result<(), StreamError>) -> io::Result<()> {
+    match answer {
         Ok(()) => Ok(()),
         Err(StreamError::Io(error)) => Err(error),
         Err(StreamError::Memory) => Err(io::Error::from(ErrorKind::OutOfMemory)),
@@ -381,7 +383,11 @@ impl Kind for Dag<i64, i64, u32> {
     }
 
     fn write_document<W: Write>(&self, out: &mut W) -> io::Result<()> {
-        stream(self, out)
+        answered(write_json(self, out, written, written))
+    }
+
+    fn write_short_document<W: Write>(&self, out: &mut W) -> io::Result<()> {
+        answered(write_short_json(self, out, written, written))
     }
 
     fn of_document(alloc: Global, document: &Value) -> Result<Self, AllocError> {
@@ -426,7 +432,11 @@ impl Kind for StableDag<i64, i64, u32> {
     }
 
     fn write_document<W: Write>(&self, out: &mut W) -> io::Result<()> {
-        stream(self, out)
+        answered(write_json(self, out, written, written))
+    }
+
+    fn write_short_document<W: Write>(&self, out: &mut W) -> io::Result<()> {
+        answered(write_short_json(self, out, written, written))
     }
 
     fn of_document(alloc: Global, document: &Value) -> Result<Self, AllocError> {

@@ -3,7 +3,7 @@ use crate::builds::{
     Input, Older, add_child_tree, add_edges, build_backward, timed_build, update_edges,
 };
 use crate::churn::come_and_go;
-use crate::documents::{json_read, json_stream, json_write};
+use crate::documents::{json_read, json_short, json_stream, json_write};
 use crate::figures::Figures;
 use crate::graph::Kind;
 use crate::inputs::Sizes;
@@ -46,6 +46,7 @@ pub enum Workload {
     Plan,
     JsonWrite,
     JsonStream,
+    JsonShort,
     JsonRead,
     Ask(Question),
     List(Listing),
@@ -91,6 +92,7 @@ impl Workload {
             "plan" => Some(Workload::Plan),
             "json_write" => Some(Workload::JsonWrite),
             "json_stream" => Some(Workload::JsonStream),
+            "json_short" => Some(Workload::JsonShort),
             "json_read" => Some(Workload::JsonRead),
             "reaches" => Some(Workload::Ask(Question::Reaches)),
             "path" => Some(Workload::Ask(Question::Path)),
@@ -145,6 +147,7 @@ impl Workload {
             Workload::Plan => plan_stages::<G, R>(rt, sizes),
             Workload::JsonWrite => json_write::<G, R>(rt, sizes),
             Workload::JsonStream => json_stream::<G, R>(rt, sizes),
+            Workload::JsonShort => json_short::<G, R>(rt, sizes),
             Workload::JsonRead => json_read::<G, R>(rt, sizes),
             Workload::Ask(question) => ask::<G, R>(rt, question, sizes),
             Workload::List(listing) => list::<G, R>(rt, listing, sizes),

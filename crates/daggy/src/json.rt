@@ -5,9 +5,11 @@
 //! decode the weights.
 //!
 //! [`dag_to_json`] and [`stable_to_json`] make a value, and [`write_json`] writes the text without
-//! making one. [`dag_from_json`] and [`stable_from_json`] read a value,
+//! making one. [`write_short_json`] leaves out the orders of the lists where they are the default.
+//! [`dag_from_json`] and [`stable_from_json`] read a value,
 //! and [`graph_from_json`] reads one whose graph may have cycles.
 pub use daggy_json::documents::{
     dag_from_json, dag_to_json, graph_from_json, stable_from_json, stable_to_json, write_json,
+    write_short_json,
 };
 pub use daggy_json::error::{ReadError, StreamError, WriteError};

@@ -14,6 +14,7 @@ pub mod PlacedSlots
 pub mod MarkedLists
 pub mod RearrangedLists
 pub mod ComposedStages
+pub mod DescendingLists
 pub mod OrderBounds
 pub mod Cycles
 pub mod GivenSlots

@@ -1,15 +1,17 @@
 -- What was written is read again, part by part.
-use Rattle.std.proofs.Common.{◌≡◌, ℕ, suc, ◌+◌, ◌<◌, Option, Some, None, IsSome, List, [], ◌∷◌, ◌++◌}
-use Rattle.std.proofs.Common.{length, map, slice_get, refl, sym, ap, subst, ◌∙◌, arith}
+use Rattle.std.proofs.Common.{◌≡◌, ℕ, suc, ◌+◌, ◌<◌, inl, inr, ◌⊎◌, Option, Some, None, IsSome, List, [], ◌∷◌, ◌++◌}
+use Rattle.std.proofs.Common.{length, map, take, slice_get, refl, sym, ap, subst, ◌∙◌, arith}
 use Rattle.std.specs.Prelude.{Result, Ok, Err, MatchResult, Contains, option_and_then, codes}
 use Rattle.std.specs.List.{AllZip}
 use Rattle.serde_json.specs.Data.{Data, null}
-use Rattle.daggy_base.specs.Graph.{Graph, Edge, slot, out_list, in_list}
-use Rattle.daggy_base.specs.Iterating.{numbered}
+use Rattle.daggy_base.specs.Graph.{Graph, Edge, slot, out_list, in_list, edge_bound}
+use Rattle.daggy_base.specs.Iterating.{numbered, node_identifiers, node_weights}
+use Rattle.daggy_base.specs.Filtering.{ListsDescend}
 use Rattle.daggy_base.specs.Orders.{lists_by_slots}
 use Rattle.daggy_base.specs.declared.kind.Kind.{Kind}
 use Rattle.daggy_base.specs.declared.kind.Kind.TheVariants.{Stable}
-use Rattle.daggy_json.specs.Document.{whole, listed, wholes, row_of, document_of, IsEntry}
+use Rattle.daggy_json.specs.Document.{whole, listed, wholes, row_of, holes_of, document_of, document_without_orders}
+use Rattle.daggy_json.specs.Document.{IsEntry, IsDocumentOf, IsShortDocumentOf}
 use Rattle.daggy_json.specs.Reading.{parts_in, array_in, whole_in, all_in, numbers_in, pair_in, orders_in, triple_in}
 use Rattle.daggy_json.specs.Reading.{ReadsEach, IsEntryRead, HasEnds}
 use Rattle.daggy_base.specs.Mapping.{weight_in, with_weight}
@@ -52,7 +54,7 @@ orders_again g ns = ap (option_and_then (all_in pair_in)) (array_again (map (row
         rw (row_again (out_list g n) (in_list g n), go ns)
 
 -- the parts of a document
-pub parts_again : (entries : List Data) (holes : List ℕ) (weights orders : List Data)
+parts_again : (entries : List Data) (holes : List ℕ) (weights orders : List Data)
     → parts_in (document_of entries (map whole holes) weights orders) ≡ Some (record {
       nodes = weights;
       holes = holes;
@@ -67,6 +69,68 @@ parts_again entries holes weights orders =
       all_again whole_in whole (λ n. refl) holes,
       list_of-items_of entries,
     )
+
+parts_without_orders : (entries : List Data) (holes : List ℕ) (weights : List Data)
+    → parts_in (document_without_orders entries (map whole holes) weights) ≡ Some (record {
+      nodes = weights;
+      holes = holes;
+      property = codes "directed";
+      edges = entries;
+      orders = None;
+    })
+parts_without_orders entries holes weights =
+    rw (
+      list_of-items_of weights,
+      list_of-items_of (map whole holes),
+      all_again whole_in whole (λ n. refl) holes,
+      list_of-items_of entries,
+    )
+
+-- what is found in a document of a graph, with the orders or without
+pub record HasParts {N E : Type 0} (node_as : N → Data → Type 0) (edge_as : E → Data → Type 0) (g : Graph N E) (d : Data)
+    : Type 0 where
+  pub entries : List Data
+  pub weights : List Data
+  pub orders : Option Data
+  pub edges : AllZip (IsEntry edge_as) (take (edge_bound g) g.edges) entries
+  pub nodes : AllZip node_as (node_weights g) weights
+  pub found : parts_in d ≡ Some (record {
+    nodes = weights;
+    holes = holes_of g;
+    property = codes "directed";
+    edges = entries;
+    orders = orders;
+  })
+  pub given : (orders ≡ Some (listed (map (row_of g) (node_identifiers g)))) ⊎ ((orders ≡ None) × ListsDescend g)
+
+module _ {N E : Type 0} (node_as : N → Data → Type 0) (edge_as : E → Data → Type 0) (g : Graph N E) (d : Data) where
+  pub document_parts : IsDocumentOf node_as edge_as g d → HasParts node_as edge_as g d
+  document_parts doc =
+      record {
+        entries = doc.entries;
+        weights = doc.weights;
+        orders = Some (listed (map (row_of g) (node_identifiers g)));
+        edges = doc.edges;
+        nodes = doc.nodes;
+        found = ap parts_in doc.is
+            ∙ parts_again doc.entries (holes_of g) doc.weights (map (row_of g) (node_identifiers g));
+        given = inl refl;
+      }
+
+  pub short_parts : IsShortDocumentOf node_as edge_as g d → HasParts node_as edge_as g d
+  short_parts doc =
+      elim doc [
+        | inl short ↦ record {
+          entries = short.1.entries;
+          weights = short.1.weights;
+          orders = None;
+          edges = short.1.edges;
+          nodes = short.1.nodes;
+          found = ap parts_in short.1.is ∙ parts_without_orders short.1.entries (holes_of g) short.1.weights;
+          given = inr (refl, short.0);
+        }
+        | inr long ↦ document_parts long.1
+      ]
 
 -- ---- one after another
 

@@ -3,6 +3,7 @@ use Rattle.std.proofs.Common.{◌≡◌, ℕ, zero, suc, ◌+◌, ◌<◌, inl, 
 use Rattle.std.proofs.Common.{IsSome, is_some, List, [], ◌∷◌, length, map, take, slice_get, unwrap_or, refl, sym, ap}
 use Rattle.std.proofs.Common.{subst, ◌∙◌, arith}
 use Rattle.std.specs.Prelude.{Result, Ok, Err, IfOk, IfErr, MatchOption, MatchResult, Contains, codes, option_and_then}
+use Rattle.std.specs.Prelude.{◌↔◌}
 use Rattle.std.specs.List.{AllZip}
 use Rattle.std.proofs.lemmas.Bool.{false≢true}
 use Rattle.std.proofs.lemmas.List.{length-map, length-take}
@@ -19,16 +20,18 @@ use Rattle.daggy_base.specs.WellFormed.{ListsEdges, IsWellFormed, IsDag}
 use Rattle.daggy_base.specs.Path.{IsAcyclic}
 use Rattle.daggy_base.specs.Iterating.{numbered, node_identifiers, node_weights, edge_weights}
 use Rattle.daggy_base.specs.Mapping.{weight_in, with_weight}
-use Rattle.daggy_base.specs.FromSlots.{graph_of_slots}
+use Rattle.daggy_base.specs.FromSlots.{lists_down, graph_of_slots}
+use Rattle.daggy_base.specs.Filtering.{ListsDescend}
 use Rattle.daggy_base.specs.Orders.{lists_by_slots, with_orders, IsOrder, AreOrders}
 use Rattle.daggy_base.proofs.FullSlots.{IsFull, full_from}
-use Rattle.daggy_base.proofs.Lists.{Contains-here, slice_get-take}
+use Rattle.daggy_base.proofs.Lists.{Contains-here, contains_mem, mem_contains, slice_get-take}
+use Rattle.daggy_base.proofs.SlotLists.{length-lists_down, of_slots_descend}
 use Rattle.daggy_base.proofs.EdgeTakenBack.{same_graph}
 use Rattle.daggy_base.proofs.Copies.{copy_same}
 use Rattle.daggy_base.specs.declared.kind.Kind.{Kind}
 use Rattle.daggy_base.specs.declared.kind.Kind.TheVariants.{Compact, Stable}
 use Rattle.daggy_json.specs.Document.{listed, row_of, holes_of, IsEntry, IsDocumentOf}
-use Rattle.daggy_json.specs.Reading.{Parts, orders_in, parts_in, AreHoles, AreFew, AreSlots, IsLaidOut, IsWeight}
+use Rattle.daggy_json.specs.Reading.{Parts, orders_in, AreHoles, AreFew, AreSlots, IsLaidOut, IsWeight}
 use Rattle.daggy_json.specs.Reading.{IsEntryRead, IsOrdered, IsTested, Then, IsLinked, IsFilled, IsRead}
 use Rattle.daggy_json.specs.Restoring.{ReadsOnly, trimmed, IsCopyAs, ReadsTo, CanBeRefused, HasRefused}
 use Rattle.daggy_json.specs.declared.error.ReadError.{ReadError}
@@ -38,10 +41,11 @@ use Rattle.daggy_json.proofs.MarkedLists.{row, slot_within}
 use Rattle.daggy_json.proofs.RearrangedLists.{end_some, end_is, in_list_has, in_list_ends}
 use Rattle.daggy_json.proofs.TrimmedSlots.{slot_bounded, vacant_ascend, slots_split, numbered_count}
 use Rattle.daggy_json.proofs.TrimmedSlots.{vacant_full, take_full, down_full}
+use Rattle.daggy_json.proofs.DescendingLists.{same_descending, same_rows}
 use Rattle.daggy_json.proofs.CopiedSlots.{AreCopied, SlotAs, copied_there, copied_length, copied_numbers, copied_down}
 use Rattle.daggy_json.proofs.CopiedSlots.{copied_after, copied_before, copied_zip, copied_nodes}
 use Rattle.daggy_json.proofs.CopiedGraphs.{acyclic_again, copy_acyclic, copy_weaker}
-use Rattle.daggy_json.proofs.ReadAgain.{lists_of, orders_again, parts_again, ReadsThrough, each_read, zip_both}
+use Rattle.daggy_json.proofs.ReadAgain.{HasParts, lists_of, orders_again, ReadsThrough, each_read, zip_both}
 use Rattle.daggy_json.proofs.ReadAgain.{Through, IsRefused, CanBeRead, entry_read, rows_again}
 
 -- ---- the front of a list
@@ -198,6 +202,23 @@ module _ {N E : Type 0} (limit : ℕ) (g : Graph N E) (w : IsWellFormed limit g)
       near_again Outgoing x v = refl
       near_again Incoming x v = refl
 
+      -- the same edges are in a list and in that of the slots
+      members : (dir : Direction) (n : ℕ) → n < length nodes → (e : ℕ)
+          → Contains (list_at dir g n) e ↔ Contains (list_at dir (graph_of_slots nodes edges) n) e
+      members dir n low e = (
+        λ c. let x = ((of_side dir).exact n e).0 c in
+            let y =
+            copied_after edge_as weight_in with_weight 0 kept_edges edges copied_edges e x.0
+            (edge_kept e x.0 x.1) in
+            in_list_has dir edges nodes n e low
+            (rw (sym x.2 ∙ sym (near_again dir x.0 y.0)) (end_is dir edges e (with_weight x.0 y.0) y.2)),
+        λ c. let y = end_some dir edges n e (in_list_ends dir edges nodes n e low c) in
+            let x =
+            copied_before edge_as weight_in with_weight 0 kept_edges edges copied_edges e y.0 y.1 in
+            ((of_side dir).exact n e).1
+            (x.0, edge_was e x.0 x.2, sym (near_again dir x.0 x.1) ∙ ap (near_end dir) x.3 ∙ y.2),
+      )
+
       pub orders_fit : AreOrders (graph_of_slots nodes edges) orders
       orders_fit =
           record {
@@ -207,22 +228,37 @@ module _ {N E : Type 0} (limit : ℕ) (g : Graph N E) (w : IsWellFormed limit g)
             each = λ dir n exists.
                 let low = slot_within nodes n exists in
                 subst (IsOrder (list_at dir (graph_of_slots nodes edges) n)) (sym (list_again dir n low)) (record {
-                  exact = λ e. (
-                    λ c. let x = ((of_side dir).exact n e).0 c in
-                        let y =
-                        copied_after edge_as weight_in with_weight 0 kept_edges edges copied_edges e x.0
-                        (edge_kept e x.0 x.1) in
-                        in_list_has dir edges nodes n e low
-                        (rw (sym x.2 ∙ sym (near_again dir x.0 y.0)) (end_is dir edges e (with_weight x.0 y.0) y.2)),
-                    λ c. let y = end_some dir edges n e (in_list_ends dir edges nodes n e low c) in
-                        let x =
-                        copied_before edge_as weight_in with_weight 0 kept_edges edges copied_edges e y.0 y.1 in
-                        ((of_side dir).exact n e).1
-                        (x.0, edge_was e x.0 x.2, sym (near_again dir x.0 x.1) ∙ ap (near_end dir) x.3 ∙ y.2),
-                  );
+                  exact = members dir n low;
                   once = (of_side dir).once n;
                 });
           }
+
+      -- in descending order they are the lists of the slots
+      module _ (down : ListsDescend g) where
+        list_down : (dir : Direction) (n : ℕ) → n < length nodes
+            → list_at dir made n ≡ list_at dir (graph_of_slots nodes edges) n
+        list_down dir n low =
+            list_again dir n low
+            ∙ same_descending (list_at dir g n) (list_at dir (graph_of_slots nodes edges) n) (down dir n)
+            (of_slots_descend nodes edges dir n)
+            (λ e m. contains_mem _ e ((members dir n low e).0 (mem_contains _ e m)))
+            (λ e m. contains_mem _ e ((members dir n low e).1 (mem_contains _ e m)))
+
+        lists_long : (lists made_lists : List (List ℕ)) → length lists ≡ length g.nodes
+            → made_lists ≡ take (node_bound g) lists → length made_lists ≡ length nodes
+        lists_long lists made_lists count is = ap length is ∙ front_long lists count
+
+        pub made_down : made ≡ graph_of_slots nodes edges
+        made_down =
+            let out = lists_long g.out_lists made.out_lists w.out_list_count made_copy.out_lists in
+            let into = lists_long g.in_lists made.in_lists w.in_list_count made_copy.in_lists in
+            same_graph (graph_of_slots nodes edges) refl refl
+            (same_rows made.out_lists (lists_down Outgoing (length nodes) edges)
+            (out ∙ sym (length-lists_down Outgoing (length nodes) edges))
+            (λ n low. list_down Outgoing n (omega (arith, low, out))))
+            (same_rows made.in_lists (lists_down Incoming (length nodes) edges)
+            (into ∙ sym (length-lists_down Incoming (length nodes) edges))
+            (λ n low. list_down Incoming n (omega (arith, low, into)))) refl refl
 
 -- ---- the stages
 
@@ -251,7 +287,7 @@ edge_weight_in (suc n) i (Some y ∷ xs) z (suc k, low, is) =
 
 module _ {M F N E : Type 0} (limit : ℕ) (kind : Kind) (node_as : M → Data → Type 0) (edge_as : F → Data → Type 0)
     (node_answers : Data → Option N → Type 0) (edge_answers : Data → Option E → Type 0) (g : Graph M F)
-    (dag : IsDag limit g) (compact : kind ≡ Compact → IsCompact g) (d : Data) (doc : IsDocumentOf node_as edge_as g d) where
+    (dag : IsDag limit g) (compact : kind ≡ Compact → IsCompact g) (d : Data) (doc : HasParts node_as edge_as g d) where
   abbrev weights_read : M → N → Type 0
   weights_read = Through node_as node_answers
 
@@ -277,7 +313,7 @@ module _ {M F N E : Type 0} (limit : ℕ) (kind : Kind) (node_as : M → Data �
     holes = holes_of g;
     property = codes "directed";
     edges = doc.entries;
-    orders = Some (listed (map (row_of g) (node_identifiers g)));
+    orders = doc.orders;
   }
 
   few_slots : length doc.weights + length (holes_of g) ≡ length left
@@ -314,7 +350,12 @@ module _ {M F N E : Type 0} (limit : ℕ) (kind : Kind) (node_as : M → Data �
     ordered : (edges : List (Option (Edge E))) → AreCopied edge_weights_read weight_in with_weight 0 left_edges edges
         → (r : Result (Graph N E) ReadError)
         → Then (IsOrdered (graph_of_slots nodes edges) part.orders) IsTested r → IsReadAgain r
-    ordered edges copied_edges r t = go t.0 t.1 t.2
+    ordered edges copied_edges r t =
+        let At : Option Data → Type 0 = λ o. IsOrdered (graph_of_slots nodes edges) o t.0 in
+        elim doc.given [
+          | inl given ↦ go t.0 (subst At given t.1) t.2
+          | inr without ↦ plain t.0 without.1 (subst At without.0 t.1) t.2
+        ]
       where
         whole_orders : List (List ℕ × List ℕ)
         whole_orders = orders limit g dag.well_formed
@@ -334,7 +375,15 @@ module _ {M F N E : Type 0} (limit : ℕ) (kind : Kind) (node_as : M → Data �
             (made_acyclic limit g dag.well_formed weights_read edge_weights_read nodes copied edges copied_edges
             dag.acyclic)))
 
-        go : (x : Result (Graph N E) ReadError) → IsOrdered (graph_of_slots nodes edges) part.orders x
+        plain : (x : Result (Graph N E) ReadError) → ListsDescend g → x ≡ Ok (graph_of_slots nodes edges)
+            → MatchResult x (λ h. IsTested h r) (λ e. r ≡ Err e) → IsReadAgain r
+        plain x down is next =
+            tested (graph_of_slots nodes edges)
+            (sym (made_down limit g dag.well_formed weights_read edge_weights_read nodes copied edges copied_edges down)) r
+            (subst (λ z. MatchResult z (λ h. IsTested h r) (λ e. r ≡ Err e)) is next)
+
+        go : (x : Result (Graph N E) ReadError)
+            → IsOrdered (graph_of_slots nodes edges) (Some (listed (map (row_of g) (node_identifiers g)))) x
             → MatchResult x (λ h. IsTested h r) (λ e. r ≡ Err e) → IsReadAgain r
         go (Ok h) s next =
             let same = same_Some s.0 whole_orders (sym s.1 ∙ again) in
@@ -384,14 +433,10 @@ module _ {M F N E : Type 0} (limit : ℕ) (kind : Kind) (node_as : M → Data �
   read_again r read = go filled.0 (each_read (IsWeight node_answers) node_as (node_weights g) doc.weights filled.0
       doc.nodes filled.1) filled.2
     where
-      found : parts_in d ≡ Some part
-      found =
-          ap parts_in doc.is ∙ parts_again doc.entries (holes_of g) doc.weights (map (row_of g) (node_identifiers g))
-
       staged : (fault : Option ReadError) × IsLaidOut limit kind part fault × Staged r part fault
       staged =
           MatchOption-at_some (r ≡ Err Shape)
-          (λ p. (fault : Option ReadError) × IsLaidOut limit kind p fault × Staged r p fault) part found read
+          (λ p. (fault : Option ReadError) × IsLaidOut limit kind p fault × Staged r p fault) part doc.found read
 
       filled : IsFilled limit kind node_answers edge_answers IsTested part r
       filled = subst (Staged r part) (laid_out staged.0 staged.1) staged.2
@@ -412,7 +457,7 @@ module _ {M F N E : Type 0} (limit : ℕ) (kind : Kind) (node_as : M → Data �
 -- what was written of a dag is read as that dag, if each of its weights is read as it was
 pub restored : {N E : Type 0} (limit : ℕ) (kind : Kind) (node_answers : Data → Option N → Type 0)
     (edge_answers : Data → Option E → Type 0) (g : Graph N E) → IsDag limit g → (kind ≡ Compact → IsCompact g)
-    → (d : Data) → IsDocumentOf (ReadsOnly node_answers) (ReadsOnly edge_answers) g d
+    → (d : Data) → HasParts (ReadsOnly node_answers) (ReadsOnly edge_answers) g d
     → (r : Result (Graph N E) ReadError)
     → IsRead limit kind node_answers edge_answers d r → MatchResult r (λ h. h ≡ trimmed g) (λ e. ⊥)
 restored limit kind node_answers edge_answers g dag compact d doc r read =
@@ -436,7 +481,7 @@ restored limit kind node_answers edge_answers g dag compact d doc r read =
 -- what was written of a dag of values is read as that dag, with what may be read of them
 pub values_again : {N E : Type 0} (limit : ℕ) (kind : Kind) (node_answers : Data → Option N → Type 0)
     (edge_answers : Data → Option E → Type 0) (g : Graph Data Data) → IsDag limit g → (kind ≡ Compact → IsCompact g)
-    → (d : Data) → IsDocumentOf (λ w v. w ≡ v) (λ w v. w ≡ v) g d → (r : Result (Graph N E) ReadError)
+    → (d : Data) → HasParts (λ w v. w ≡ v) (λ w v. w ≡ v) g d → (r : Result (Graph N E) ReadError)
     → IsRead limit kind node_answers edge_answers d r
     → MatchResult r (IsCopyAs (ReadsTo node_answers) (ReadsTo edge_answers) (trimmed g))
     (λ e. (e ≡ Weight) × HasRefused node_answers edge_answers g)

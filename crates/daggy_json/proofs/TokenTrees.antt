@@ -15,7 +15,7 @@ use Rattle.serde_json.specs.Read.{of_json, of_items, max_depth}
 use Rattle.serde_json.specs.View.{items_of}
 use Rattle.serde_json.specs.Written.{IsInOrder, WritesItems}
 use Rattle.serde_json.proofs.Texts.{tokens_from_order, print-outline}
-use Rattle.daggy_json.specs.Document.{listed, document_of}
+use Rattle.daggy_json.specs.Document.{listed, document_of, document_without_orders}
 use Rattle.daggy_json.specs.Streaming.{IsTextOf}
 use Rattle.daggy_json.specs.Passing.{AreTokensOf, AreTokensOfA, IsArrayOf}
 
@@ -111,6 +111,27 @@ text_of_tokens d ts w printable =
     }
 
 -- ---- the document
+
+module _ (entries holes weights : List Data) {es hs ws : List Token} (e : AreTokensOf (listed entries) es)
+    (h : AreTokensOf (listed holes) hs) (w : AreTokensOf (listed weights) ws) where
+  pub tokens_without_orders : AreTokensOf (document_without_orders entries holes weights)
+      (begin_object ∷ key (codes "edge_property") ∷ string (codes "directed") ∷ key (codes "edges") ∷ (es
+      ++ (key (codes "node_holes") ∷ (hs ++ (key (codes "nodes") ∷ (ws ++ end_object ∷ []))))))
+  tokens_without_orders = (
+    json.object (json.member (codes "edge_property") (json.string (codes "directed"))
+        (json.member (codes "edges") e.0 (json.member (codes "node_holes") h.0
+        (json.member (codes "nodes") w.0 json.no_members)))),
+    (λ i. begin_object ∷ key (codes "edge_property") ∷ string (codes "directed") ∷ key (codes "edges") ∷ (e.1 i
+        ++ (key (codes "node_holes") ∷ (h.1 i ++ (key (codes "nodes") ∷ (w.1 i ++ end_object ∷ [])))))),
+    (λ i. option_map object (option_and_then (λ d1. option_and_then (λ d2. option_and_then (λ d3.
+        Some (put (codes "nodes") d3 (put (codes "node_holes") d2
+        (put (codes "edges") d1 (member (codes "edge_property") (kinds.string (codes "directed")) no_members)))))
+        (w.2 i)) (h.2 i)) (e.2 i))),
+    omega (arith, e.3, h.3, w.3),
+    (λ i. json.object (json.member (codes "edge_property") (json.string (codes "directed"))
+        (json.member (codes "edges") (e.4 i) (json.member (codes "node_holes") (h.4 i)
+        (json.member (codes "nodes") (w.4 i) json.no_members))))),
+  )
 
 module _ (entries holes weights rows : List Data) {es hs ws os : List Token} (e : AreTokensOf (listed entries) es)
     (h : AreTokensOf (listed holes) hs) (w : AreTokensOf (listed weights) ws) (o : AreTokensOf (listed rows) os) where

@@ -1,10 +1,11 @@
 -- The document of a graph.
-use Rattle.std.specs.Prelude.{◌≡◌, ℕ, ◌+◌, Option, Some, None, List, [], ◌∷◌, map, take, codes}
+use Rattle.std.specs.Prelude.{◌≡◌, ℕ, ◌+◌, ◌⊎◌, Option, Some, None, List, [], ◌∷◌, map, take, codes}
 use Rattle.std.specs.List.{AllZip}
 use Rattle.serde_json.specs.Data.{Data, null, number, unsigned, string, array, object, no_members, member}
 use Rattle.serde_json.specs.View.{items_of}
 use Rattle.daggy_base.specs.Graph.{Graph, Edge, out_list, in_list, node_bound, edge_bound}
 use Rattle.daggy_base.specs.Iterating.{node_identifiers, node_weights}
+use Rattle.daggy_base.specs.Filtering.{ListsDescend}
 
 -- a whole number, an array, and an array of whole numbers
 abbrev pub whole : ℕ → Data
@@ -54,3 +55,26 @@ pub record IsDocumentOf {N E : Type 0} (node_as : N → Data → Type 0) (edge_a
   pub edges : AllZip (IsEntry edge_as) (take (edge_bound g) g.edges) entries
   pub nodes : AllZip node_as (node_weights g) weights
   pub is : d ≡ document_of entries (map whole (holes_of g)) weights (map (row_of g) (node_identifiers g))
+
+-- the same object without `orders`
+abbrev pub document_without_orders : (entries holes weights : List Data) → Data
+document_without_orders entries holes weights =
+    object (member (codes "edge_property") (string (codes "directed")) (member (codes "edges") (listed entries)
+    (member (codes "node_holes") (listed holes) (member (codes "nodes") (listed weights) no_members))))
+
+-- The value is the document of the graph without the lists of its nodes.
+pub record IsDocumentWithoutOrders {N E : Type 0} (node_as : N → Data → Type 0) (edge_as : E → Data → Type 0)
+    (g : Graph N E) (d : Data) : Type 0 where
+  pub entries : List Data
+  pub weights : List Data
+  pub edges : AllZip (IsEntry edge_as) (take (edge_bound g) g.edges) entries
+  pub nodes : AllZip node_as (node_weights g) weights
+  pub is : d ≡ document_without_orders entries (map whole (holes_of g)) weights
+
+-- The value is the short document of the graph: if each list is in descending index order, the document without
+-- `orders`, otherwise the document.
+abbrev pub IsShortDocumentOf : {N E : Type 0}
+    → (node_as : N → Data → Type 0) → (edge_as : E → Data → Type 0) → Graph N E → Data → Type 0
+IsShortDocumentOf node_as edge_as g d =
+    (ListsDescend g × IsDocumentWithoutOrders node_as edge_as g d)
+    ⊎ (¬ ListsDescend g × IsDocumentOf node_as edge_as g d)

@@ -1,15 +1,20 @@
 -- What a text writer passes to its writer; for private clauses.
-use Rattle.std.specs.Prelude.{◌≡◌, ◌⊎◌, ℕ, List, [], ◌++◌, Option, Some, MatchOption, Result, MatchResult}
+use Rattle.std.specs.Prelude.{◌≡◌, ◌⊎◌, ℕ, List, [], ◌∷◌, ◌++◌, Option, Some, MatchOption, Result, MatchResult}
+use Rattle.std.specs.Prelude.{◌<◌, codes, take}
 use Rattle.std.specs.List.{AllZip}
 use Rattle.std.specs.Io.KnownBytes.{Appends}
 use Rattle.std.specs.declared.alloc.AllocError.{AllocError}
-use Rattle.json.specs.Token.{Token}
+use Rattle.json.specs.Token.{Token, begin_object, key, string}
 use Rattle.json.specs.Print.{print, ends_value, ArePrintable}
 use Rattle.serde_json.specs.Data.{Data, null}
 use Rattle.serde_json.specs.View.{view}
 use Rattle.serde_json.specs.Written.{WritesValue}
 use Rattle.serde_json.specs.declared.value.Value.{Value}
-use Rattle.daggy_json.specs.Document.{listed}
+use Rattle.daggy_base.specs.declared.index.Direction.{Direction}
+use Rattle.daggy_base.specs.Graph.{Graph, edge_at, edge_bound}
+use Rattle.daggy_base.specs.Cursor.{cursor_after}
+use Rattle.daggy_base.specs.Iterating.{node_weights}
+use Rattle.daggy_json.specs.Document.{listed, wholes, holes_of, IsEntry}
 use Rattle.daggy_json.specs.Streaming.{AppendsFront}
 use Rattle.daggy_json.specs.declared.error.StreamError.{StreamError}
 use Rattle.daggy_json.specs.declared.error.StreamError.TheVariants.{Memory}
@@ -95,3 +100,27 @@ Encodes weight_as failed w d = weight_as w d ⊎ ((d ≡ null) × failed)
 -- an array of one value for each element
 abbrev pub IsArrayOf : {A : Type 0} → (A → Data → Type 0) → List A → Data → Type 0
 IsArrayOf Is xs d = (ds : List Data) × AllZip Is xs ds × (d ≡ listed ds)
+
+-- the tokens of the document of a graph, up to the weights of its nodes
+pub record AreTokensOfParts {N E : Type 0} (node_as : N → Data → Type 0) (edge_as : E → Data → Type 0)
+    (g : Graph N E) (ts : List Token) : Type 0 where
+  pub entries : List Data
+  pub weights : List Data
+  pub edges : AllZip (IsEntry edge_as) (take (edge_bound g) g.edges) entries
+  pub nodes : AllZip node_as (node_weights g) weights
+  pub of_entries : List Token
+  pub of_holes : List Token
+  pub of_weights : List Token
+  pub are_entries : AreTokensOf (listed entries) of_entries
+  pub are_holes : AreTokensOf (wholes (holes_of g)) of_holes
+  pub are_weights : AreTokensOf (listed weights) of_weights
+  pub is : ts
+      ≡ begin_object ∷ key (codes "edge_property") ∷ string (codes "directed") ∷ key (codes "edges") ∷ (of_entries
+      ++ (key (codes "node_holes") ∷ (of_holes ++ (key (codes "nodes") ∷ of_weights))))
+
+-- ---- orders
+
+-- the edge after e in its list, if there is one, has a lower index
+abbrev pub Descends : {N E : Type 0} → (end : ℕ) → Graph N E → Direction → ℕ → Type 0
+Descends end g dir e =
+    (cursor_after dir end g e (edge_at g e) ≡ end) ⊎ (cursor_after dir end g e (edge_at g e) < e)

@@ -7,7 +7,7 @@ use Rattle.serde_json.specs.Data.{Data, null, depth}
 use Rattle.serde_json.specs.Read.{read, max_depth}
 use Rattle.serde_json.specs.Written.{has_float, compact_text, IsInOrder}
 use Rattle.daggy_base.specs.Graph.{Graph}
-use Rattle.daggy_json.specs.Document.{IsDocumentOf}
+use Rattle.daggy_json.specs.Document.{IsDocumentOf, IsShortDocumentOf}
 
 -- the text of a value, with what `Value::to_vec` ensures of its text
 pub record IsTextOf (d : Data) (text : List ℕ) : Type 0 where
@@ -31,6 +31,16 @@ module _ {N E : Type 0} (node_as : N → Data → Type 0) (edge_as : E → Data 
   abbrev pub HasFront : Type 0
   HasFront =
       (d : Data) × IsDocumentOf node_as edge_as g d × (text : List ℕ) × IsTextOf d text × AppendsFront old new text
+
+  -- the writer has the text of a short document of the graph
+  abbrev pub HasShortDocument : Type 0
+  HasShortDocument =
+      (d : Data) × IsShortDocumentOf node_as edge_as g d × (text : List ℕ) × IsTextOf d text × Appends old new text
+
+  -- the writer has a front of the text of a short document of the graph
+  abbrev pub HasShortFront : Type 0
+  HasShortFront =
+      (d : Data) × IsShortDocumentOf node_as edge_as g d × (text : List ℕ) × IsTextOf d text × AppendsFront old new text
 
 -- the weight is encoded as this data, or null stands for it
 abbrev pub OrNull : {W : Type 0} → (W → Data → Type 0) → W → Data → Type 0

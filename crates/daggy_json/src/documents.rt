@@ -5,17 +5,18 @@ ghost use Rattle.serde_json.specs.View.{view};
 ghost use Rattle.daggy_base.specs.Graph.{Graph, IsCompact};
 ghost use Rattle.daggy_base.specs.declared.kind.Kind.TheVariants.{Compact, Stable};
 ghost use Rattle.daggy_base.specs.WellFormed.{IsDag};
-ghost use Rattle.daggy_json.specs.Document.{IsDocumentOf};
+ghost use Rattle.daggy_json.specs.Document.{IsDocumentOf, IsShortDocumentOf};
 ghost use Rattle.daggy_json.specs.Weight.{WritesAs, ReadsAs};
 ghost use Rattle.daggy_json.specs.Reading.{IsGraphRead, IsRead};
 ghost use Rattle.daggy_json.specs.Restoring.{ReadsOnly, trimmed, IsCopyAs, ReadsTo};
 ghost use Rattle.daggy_json.specs.Restoring.{HasRefused, HasValues};
 ghost use Rattle.daggy_json.specs.Streaming.{HasDocument, HasFront, OrNull};
+ghost use Rattle.daggy_json.specs.Streaming.{HasShortDocument, HasShortFront};
 ghost use Rattle.daggy_json.specs.declared.error.ReadError.TheVariants.{Memory, Weight};
 
 use crate::error::{ReadError, StreamError, WriteError};
 use crate::making::{read, read_graph};
-use crate::streaming::stream_document;
+use crate::streaming::{stream_document, stream_short_document};
 use crate::text::TextWriter;
 use crate::writing::write_document;
 use daggy_base::index::IndexType;
@@ -215,6 +216,72 @@ pub fn write_json<
     out.finish()
 }
 
+/// Writes the short document of a dag of either kind to a writer: without `orders` if each list is
+/// in descending index order, otherwise the text of [`write_json`]. Both are read as the same dag.
+/// It does not allocate, and does not flush the writer.
+///
+/// Each list of a dag is in descending index order if edges were only added. In a stable dag this
+/// remains so after removals, until an edge is added in a vacant slot.
+///
+/// `fn_node` encodes the weight of a node, and `fn_edge` the weight of an edge.
+///
+/// # Requires
+///
+/// - `nodes`: `fn_node` may be called with any argument, any number of times.
+/// - `edges`: `fn_edge` may be called with any argument, any number of times.
+///
+/// # Errors
+///
+/// Returns `Memory` if one of these functions fails, otherwise `Io` with the writer's error. In
+/// that case a prefix of the text has been written.
+///
+/// # Complexity
+///
+/// O(nodes + edges), plus the calls. After an error the writer is not called again, but the rest of
+/// the dag is still traversed.
+///
+/// # Examples
+///
+/// ```
+/// let mut dag: Dag<u32, u32> = Dag::new(rt.alloc());
+/// let sow = dag.add_node(1)?;
+/// let _ = dag.add_child(sow, 90, 2)?;
+/// let mut text = Vec::new(rt.alloc());
+/// write_short_json(
+///     &dag,
+///     &mut text,
+///     |n| Ok(Value::from(*n)),
+///     |e| Ok(Value::from(*e)),
+/// )?;
+/// assert!(rt; text.ends_with(b"\"edges\":[[0,1,90]],\"node_holes\":[],\"nodes\":[1,2]}"));
+/// ```
+pub fn write_short_json<
+    W: Write,
+    N: Drop,
+    E: Drop,
+    Ix: IndexType,
+    S: ReadStore<Ix, NodeWeight = N, EdgeWeight = E>,
+    F: Fn(&N) -> Result<Value, AllocError> + Drop,
+    G: Fn(&E) -> Result<Value, AllocError> + Drop,
+>(dag: &Acyclic<N, E, Ix, S>, writer: &mut W, fn_node: F, fn_edge: G) -> Result<(), StreamError>
+    requires nodes { F.IsAlwaysCallable fn_node }
+    requires edges { G.IsAlwaysCallable fn_edge }
+    ensures document { OnOk result
+        (HasShortDocument (WritesAs F.Fn fn_node) (WritesAs G.Fn fn_edge)
+        dag.now.graph (W.contents writer.old) (W.contents writer.new)) }
+    ensures fault { IfErr result (λ e. ¬ (e ≡ StreamError.Memory)
+        → HasShortFront (WritesAs F.Fn fn_node) (WritesAs G.Fn fn_edge)
+        dag.now.graph (W.contents writer.old) (W.contents writer.new)) }
+    // After the failure `null` may be written for a weight.
+    ensures memory { result ≡ Err StreamError.Memory
+        → HasShortFront (OrNull (WritesAs F.Fn fn_node)) (OrNull (WritesAs G.Fn fn_edge))
+        dag.now.graph (W.contents writer.old) (W.contents writer.new) }
+{
+    let mut out = TextWriter::new(writer);
+    stream_short_document(dag.graph(), &fn_node, &fn_edge, &mut out);
+    out.finish()
+}
+
 /// Reads a dag from a value in the format of [`dag_to_json`]. Unknown members are ignored. Without
 /// `orders` each list is in descending index order. Reading a written document restores the dag:
 /// its indices, the ends of its edges and its lists, with the weights that `fn_node` and `fn_edge`
@@ -275,6 +342,17 @@ pub fn dag_from_json<
     // rejected.
     ensures restored_shape { (g : Graph Data Data) → IsDag Ix.greatest g → IsCompact g
         → IsDocumentOf (λ w v. w ≡ v) (λ w v. w ≡ v) g (view value.now)
+        → MatchResult result
+        (λ d. IsCopyAs (ReadsTo (ReadsAs F.Fn fn_node)) (ReadsTo (ReadsAs G.Fn fn_edge)) g d.graph)
+        (λ e. (e ≡ Memory)
+        ⊎ (e ≡ Weight) × HasRefused (ReadsAs F.Fn fn_node) (ReadsAs G.Fn fn_edge) g) }
+    // The short document of a dag is read in the same way.
+    ensures restored_short { (g : Graph N E) → IsDag Ix.greatest g → IsCompact g
+        → IsShortDocumentOf (ReadsOnly (ReadsAs F.Fn fn_node)) (ReadsOnly (ReadsAs G.Fn fn_edge)) g
+        (view value.now)
+        → MatchResult result (λ d. d.graph ≡ g) (λ e. e ≡ Memory) }
+    ensures restored_short_shape { (g : Graph Data Data) → IsDag Ix.greatest g → IsCompact g
+        → IsShortDocumentOf (λ w v. w ≡ v) (λ w v. w ≡ v) g (view value.now)
         → MatchResult result
         (λ d. IsCopyAs (ReadsTo (ReadsAs F.Fn fn_node)) (ReadsTo (ReadsAs G.Fn fn_edge)) g d.graph)
         (λ e. (e ≡ Memory)
@@ -343,6 +421,18 @@ pub fn stable_from_json<
     // rejected.
     ensures restored_shape { (g : Graph Data Data) → IsDag Ix.greatest g
         → IsDocumentOf (λ w v. w ≡ v) (λ w v. w ≡ v) g (view value.now)
+        → MatchResult result
+        (λ d. IsCopyAs (ReadsTo (ReadsAs F.Fn fn_node)) (ReadsTo (ReadsAs G.Fn fn_edge)) (trimmed g)
+        d.graph)
+        (λ e. (e ≡ Memory)
+        ⊎ (e ≡ Weight) × HasRefused (ReadsAs F.Fn fn_node) (ReadsAs G.Fn fn_edge) g) }
+    // The short document of a dag is read in the same way.
+    ensures restored_short { (g : Graph N E) → IsDag Ix.greatest g
+        → IsShortDocumentOf (ReadsOnly (ReadsAs F.Fn fn_node)) (ReadsOnly (ReadsAs G.Fn fn_edge)) g
+        (view value.now)
+        → MatchResult result (λ d. d.graph ≡ trimmed g) (λ e. e ≡ Memory) }
+    ensures restored_short_shape { (g : Graph Data Data) → IsDag Ix.greatest g
+        → IsShortDocumentOf (λ w v. w ≡ v) (λ w v. w ≡ v) g (view value.now)
         → MatchResult result
         (λ d. IsCopyAs (ReadsTo (ReadsAs F.Fn fn_node)) (ReadsTo (ReadsAs G.Fn fn_edge)) (trimmed g)
         d.graph)

@@ -3,6 +3,7 @@
 #![tactic(auto)]
 
 mod block;
+mod descending;
 pub mod documents;
 pub mod error;
 mod making;

@@ -3,11 +3,13 @@ ghost use Rattle.std.specs.Prelude.{◌≤◌, IsTrue, map, take};
 ghost use Rattle.daggy_base.specs.Graph.{edge_at, edge_bound, list_at};
 ghost use Rattle.daggy_base.specs.Iterating.{node_identifiers, node_weights};
 ghost use Rattle.daggy_json.specs.Document.{whole, listed, wholes, holes_of, row_of};
-ghost use Rattle.daggy_json.specs.Document.{IsEntry, IsDocumentOf};
+ghost use Rattle.daggy_json.specs.Document.{IsEntry, IsDocumentOf, IsDocumentWithoutOrders};
+ghost use Rattle.daggy_json.specs.Document.{IsShortDocumentOf};
 ghost use Rattle.daggy_json.specs.Weight.{WritesAs};
 ghost use Rattle.daggy_json.specs.Passing.{HasFailed, Writes, AreTokensOf, AreTokensOfA, Encodes};
-ghost use Rattle.daggy_json.specs.Passing.{IsArrayOf};
+ghost use Rattle.daggy_json.specs.Passing.{IsArrayOf, AreTokensOfParts};
 
+use crate::descending::lists_descend;
 use crate::text::TextWriter;
 use crate::values::write_weight;
 use daggy_base::index::{Direction, EdgeIndex, IndexType, NodeIndex};
@@ -200,6 +202,32 @@ fn stream_orders<W: Write, Ix: IndexType, S: ReadStore<Ix>>(store: &S, out: &mut
     out.token(Token::EndArray);
 }
 
+// The members of a document before `orders`.
+fn stream_parts<
+    W: Write,
+    Ix: IndexType,
+    S: ReadStore<Ix>,
+    F: Fn(&S::NodeWeight) -> Result<Value, AllocError>,
+    G: Fn(&S::EdgeWeight) -> Result<Value, AllocError>,
+>(store: &S, fn_node: &F, fn_edge: &G, out: &mut TextWriter<'_, W>)
+    requires nodes { F.IsAlwaysCallable fn_node.now }
+    requires edges { G.IsAlwaysCallable fn_edge.now }
+    ensures { Writes W.contents out.old out.new (AreTokensOfParts
+        (Encodes (WritesAs F.Fn fn_node.now) (HasFailed out.new))
+        (Encodes (WritesAs G.Fn fn_edge.now) (HasFailed out.new))
+        (S.graph store.now)) }
+{
+    out.token(Token::BeginObject);
+    out.token(Token::Key("edge_property"));
+    out.token(Token::String("directed"));
+    out.token(Token::Key("edges"));
+    stream_entries(store, fn_edge, out);
+    out.token(Token::Key("node_holes"));
+    stream_holes(store, out);
+    out.token(Token::Key("nodes"));
+    stream_weights(store, fn_node, out);
+}
+
 /// Writes the document of the graph of a store.
 pub(crate) fn stream_document<
     W: Write,
@@ -215,16 +243,49 @@ pub(crate) fn stream_document<
         (Encodes (WritesAs G.Fn fn_edge.now) (HasFailed out.new))
         (S.graph store.now))) }
 {
-    out.token(Token::BeginObject);
-    out.token(Token::Key("edge_property"));
-    out.token(Token::String("directed"));
-    out.token(Token::Key("edges"));
-    stream_entries(store, fn_edge, out);
-    out.token(Token::Key("node_holes"));
-    stream_holes(store, out);
-    out.token(Token::Key("nodes"));
-    stream_weights(store, fn_node, out);
+    stream_parts(store, fn_node, fn_edge, out);
     out.token(Token::Key("orders"));
     stream_orders(store, out);
     out.token(Token::EndObject);
+}
+
+// The document without `orders`.
+fn stream_without_orders<
+    W: Write,
+    Ix: IndexType,
+    S: ReadStore<Ix>,
+    F: Fn(&S::NodeWeight) -> Result<Value, AllocError>,
+    G: Fn(&S::EdgeWeight) -> Result<Value, AllocError>,
+>(store: &S, fn_node: &F, fn_edge: &G, out: &mut TextWriter<'_, W>)
+    requires nodes { F.IsAlwaysCallable fn_node.now }
+    requires edges { G.IsAlwaysCallable fn_edge.now }
+    ensures { Writes W.contents out.old out.new (AreTokensOfA (IsDocumentWithoutOrders
+        (Encodes (WritesAs F.Fn fn_node.now) (HasFailed out.new))
+        (Encodes (WritesAs G.Fn fn_edge.now) (HasFailed out.new))
+        (S.graph store.now))) }
+{
+    stream_parts(store, fn_node, fn_edge, out);
+    out.token(Token::EndObject);
+}
+
+/// Writes the short document of the graph of a store.
+pub(crate) fn stream_short_document<
+    W: Write,
+    Ix: IndexType,
+    S: ReadStore<Ix>,
+    F: Fn(&S::NodeWeight) -> Result<Value, AllocError>,
+    G: Fn(&S::EdgeWeight) -> Result<Value, AllocError>,
+>(store: &S, fn_node: &F, fn_edge: &G, out: &mut TextWriter<'_, W>)
+    requires nodes { F.IsAlwaysCallable fn_node.now }
+    requires edges { G.IsAlwaysCallable fn_edge.now }
+    ensures { Writes W.contents out.old out.new (AreTokensOfA (IsShortDocumentOf
+        (Encodes (WritesAs F.Fn fn_node.now) (HasFailed out.new))
+        (Encodes (WritesAs G.Fn fn_edge.now) (HasFailed out.new))
+        (S.graph store.now))) }
+{
+    if lists_descend(store) {
+        stream_without_orders(store, fn_node, fn_edge, out);
+    } else {
+        stream_document(store, fn_node, fn_edge, out);
+    }
 }

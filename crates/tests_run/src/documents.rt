@@ -3,6 +3,7 @@
 mod random;
 mod reading;
 mod scenes;
+mod short;
 mod streaming;
 mod support;
 mod texts;

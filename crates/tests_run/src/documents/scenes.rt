@@ -3,6 +3,7 @@
 //! Each kind is named in one function, [`compact`] or [`stable`], since a call at a kind costs a
 //! proof much more than a call at any dag.
 use super::reading::{reads, reads_as, reads_vacant_slots, refuses, starves, takes_vacant_slots};
+use super::short::{ends_short, fails_short, fills, shortens};
 use super::streaming::{ends, fails, goes_on, streams, takes_nothing};
 use super::support::{Compact, Kind, Recipe, Stable};
 use super::writing::{writes, writes_nothing};
@@ -27,6 +28,14 @@ pub enum Scene<'a> {
     TakingNothing,
     /// The writer is interrupted.
     Interrupted,
+    /// A dag is made by a recipe, and its short document is written to a writer.
+    Shortened(Recipe<'a>, &'a str),
+    /// No short document is written, since there is no memory for a weight.
+    NotShortened,
+    /// An edge is added in a vacant slot, and the short document is written.
+    Filled(&'a str),
+    /// The writer of a short document fails, at each call in turn.
+    ShortFailing(Recipe<'a>, &'a str),
     /// A document is read.
     Read(&'a str),
     /// A document is read as a dag that is written as the other one.
@@ -50,6 +59,10 @@ fn play<S: Kind>(rt: &impl Abort, alloc: Global, scene: Scene<'_>) {
         Scene::Failing => fails::<S>(rt, alloc),
         Scene::TakingNothing => takes_nothing::<S>(rt, alloc),
         Scene::Interrupted => goes_on::<S>(rt, alloc),
+        Scene::Shortened(recipe, wanted) => shortens::<S>(rt, alloc, recipe, wanted),
+        Scene::NotShortened => ends_short::<S>(rt, alloc),
+        Scene::Filled(wanted) => fills::<S>(rt, alloc, wanted),
+        Scene::ShortFailing(recipe, text) => fails_short::<S>(rt, alloc, recipe, text),
         Scene::Read(text) => reads::<S>(rt, alloc, text),
         Scene::ReadAs(text, wanted) => reads_as::<S>(rt, alloc, text, wanted),
         Scene::Refused(text, wanted) => refuses::<S>(rt, alloc, text, wanted),

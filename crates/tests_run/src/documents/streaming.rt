@@ -103,12 +103,12 @@ fn weights_are_streamed_as_their_values(rt: HostRuntime) {
     streams_texts::<DiGraph<&'static str, &'static str, u8>>(&rt, rt.alloc());
 }
 
-// A writer that takes a few bytes at a time, and fails after some calls.
+/// A writer that takes a few bytes at a time, and fails after some calls.
 #[derive(Drop)]
-struct Failing {
-    taken: Vec<u8>,
-    step: usize,
-    calls: usize,
+pub struct Failing {
+    pub taken: Vec<u8>,
+    pub step: usize,
+    pub calls: usize,
 }
 
 impl Write for Failing {
@@ -127,8 +127,8 @@ impl Write for Failing {
     }
 }
 
-// The kind of the error, if the writer failed.
-fn fault_of(rt: &impl Abort, answer: Result<(), StreamError>) -> Option<ErrorKind> {
+/// The kind of the error, if the writer failed.
+pub fn fault_of(rt: &impl Abort, answer: Result<(), StreamError>) -> Option<ErrorKind> {
     match answer {
         Ok(()) => None,
         Err(StreamError::Io(error)) => Some(error.kind()),
@@ -229,7 +229,8 @@ fn an_interrupted_write_is_tried_again(rt: HostRuntime) {
     compact(&rt, rt.alloc(), Scene::Interrupted);
 }
 
-fn refuse(_weight: &u64) -> Result<Value, AllocError> {
+/// There is no memory for the weight.
+pub fn refuse(_weight: &u64) -> Result<Value, AllocError> {
     Err(AllocError)
 }
 

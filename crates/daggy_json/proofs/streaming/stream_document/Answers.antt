@@ -5,6 +5,5 @@ use Rattle.daggy_json.proofs.streaming.stream_document.Goals as goal
 pub returns : goal.returns
 returns g c =
     writes_document (WritesAs g.F.Fn c.args.fn_node.now) (WritesAs g.G.Fn c.args.fn_edge.now)
-    (g.S.EdgeSource.graph c.args.store.now) c.token.ensures c.token-2.ensures c.token-3.ensures c.token-4.ensures
-    c.stream_entries.ensures c.token-5.ensures c.stream_holes.ensures c.token-6.ensures c.stream_weights.ensures
-    c.token-7.ensures c.stream_orders.ensures c.token-8.ensures
+    (g.S.EdgeSource.graph c.args.store.now) c.stream_parts.ensures c.token.ensures c.stream_orders.ensures
+    c.token-2.ensures
