@@ -64,7 +64,9 @@ pub use Rattle.daggy_traversal.specs.Traversal
 pub use Rattle.daggy_traversal.specs.Breadth
 pub use Rattle.daggy_traversal.specs.Depth
 pub use Rattle.daggy_traversal.specs.Postorder
+pub use Rattle.daggy_named.specs.Dependencies
 pub use Rattle.daggy_named.specs.Naming
+pub use Rattle.daggy_named.specs.Planned
 pub use Rattle.daggy_named.specs.Asked
 pub use Rattle.daggy_named.specs.Refused
 pub use Rattle.daggy_named.specs.Lends as NamedLends

@@ -1,7 +1,7 @@
 //! Dags whose nodes have keys, and whose methods require nothing of their caller.
 //!
 //! A [`Named`] is a stable dag with a hash map of its keys. A key that is unknown or taken, an edge
-//! that would close a cycle and an index type without an index left are errors: [`AddError`] and
-//! [`DependError`].
-pub use daggy_named::error::{AddError, DependError};
-pub use daggy_named::named::{Dependency, Keys, Named, NeighborKeys};
+//! that would close a cycle and an index type without an index left are errors: [`AddError`],
+//! [`DependError`] and [`DependenciesError`].
+pub use daggy_named::error::{AddError, DependError, DependenciesError};
+pub use daggy_named::named::{Dependency, Keys, Named, NeighborKeys, PlanByKey, TopologicalKeys};

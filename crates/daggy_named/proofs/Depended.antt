@@ -3,6 +3,7 @@ use Rattle.std.proofs.Common.{◌≡◌, ◌↔◌, ◌⊎◌, inl, inr, ℕ, Bo
 use Rattle.std.proofs.Common.{subst, ◌∙◌}
 use Rattle.daggy_base.specs.declared.error.EdgeError.{EdgeError}
 use Rattle.daggy_base.specs.declared.error.EdgeError.TheVariants as edge
+use Rattle.daggy_named.specs.Asked.{ForNode}
 use Rattle.daggy_named.specs.Naming.{index_by, ForNodes}
 use Rattle.daggy_named.specs.declared.error.DependError.{DependError}
 use Rattle.daggy_named.specs.declared.error.DependError.TheVariants as depend
@@ -54,3 +55,13 @@ module _ {K : Type 0} (a b : K → Bool) (keys : List (Option K)) (P : ℕ → �
       let u_same : h.0 ≡ u = cc in
       let v_same : h.1 ≡ v = cc in
       subst (λ z. P z v) u_same (subst (λ z. P h.0 z) v_same h.4)
+
+module _ {K : Type 0} (test : K → Bool) (keys : List (Option K)) (P : ℕ → Type 0) {n : ℕ}
+    (n_is : Some n ≡ index_by test keys) where
+  pub for_node : P n → ForNode test keys P
+  for_node holds = (n, sym n_is, holds)
+
+  pub from_node : ForNode test keys P → P n
+  from_node h =
+      let both : Some h.0 ≡ Some n = sym h.1 ∙ sym n_is in
+      let same : h.0 ≡ n = cc in subst P same h.2

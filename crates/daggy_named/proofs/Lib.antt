@@ -7,3 +7,5 @@ pub mod Written
 pub mod Depended
 pub mod NamedNodes
 pub mod DependenciesGone
+pub mod DependenciesSet
+pub mod PlansByKey

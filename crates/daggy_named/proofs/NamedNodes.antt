@@ -1,5 +1,5 @@
 -- Lists of nodes that exist, and their keys.
-use Rattle.std.proofs.Common.{◌≡◌, ℕ, ◌+◌, suc, zero, ◌<◌, ◌↔◌, List, [], ◌∷◌, Option, Some, None, IsSome, is_some, length, map}
+use Rattle.std.proofs.Common.{◌≡◌, ℕ, ◌+◌, suc, zero, ◌↔◌, List, [], ◌∷◌, Option, Some, None, IsSome, is_some, map}
 use Rattle.std.proofs.Common.{get_or, Contains, Bor, refl, sym, ap, subst, ◌∙◌, arith}
 use Rattle.std.proofs.lemmas.List.{length-map, get_or-map}
 use Rattle.std.proofs.lemmas.List.Elements.{Contains-get_or}
@@ -9,7 +9,8 @@ use Rattle.std.proofs.lemmas.Bool.{false≢true}
 use Rattle.daggy_base.specs.declared.index.Direction.{Direction}
 use Rattle.daggy_base.specs.declared.index.Direction.TheVariants.{Outgoing, Incoming}
 use Rattle.daggy_base.specs.Graph.{Graph, Edge, HasNode, slot, edge_at, far_end, list_at}
-use Rattle.daggy_base.specs.Iterating.{numbered, node_identifiers, edges_at, neighbors_at}
+use Rattle.daggy_base.specs.Iterating.{numbered, node_identifiers, neighbors_at}
+use Rattle.daggy_base.specs.Ordered.{IsOrderOf}
 use Rattle.daggy_base.specs.Path.{IsPath}
 use Rattle.daggy_base.specs.WellFormed.{IsWellFormed}
 use Rattle.daggy_order.specs.Paths.{IsShortestPath}
@@ -26,7 +27,7 @@ each_number P number items h k d low =
 pub each_member : {A : Type 0} (P : A → Type 0) (xs : List A) → ((x : A) → Contains xs x → P x) → All P xs
 each_member P xs h k d low = h (get_or xs k d) (Contains-get_or xs k d low)
 
-nothing : {A : Type 0} (P : A → Type 0) → All P []
+pub nothing : {A : Type 0} (P : A → Type 0) → All P []
 nothing P k d low = absurd (omega (arith, low))
 
 one_more : {A : Type 0} (P : A → Type 0) (x : A) (xs : List A) → P x → All P xs → All P (x ∷ xs)
@@ -37,7 +38,7 @@ pub all_rest : {A : Type 0} (P : A → Type 0) (x : A) (xs : List A) → All P (
 all_rest P x xs h k d low = h (suc k) d (omega (arith, low))
 
 -- the nodes of a path exist
-path_exists : {N E : Type 0} (g : Graph N E) (u : ℕ) (rest : List ℕ) → IsPath g (u ∷ rest) → All (HasNode g) (u ∷ rest)
+pub path_exists : {N E : Type 0} (g : Graph N E) (u : ℕ) (rest : List ℕ) → IsPath g (u ∷ rest) → All (HasNode g) (u ∷ rest)
 path_exists g u [] p = one_more (HasNode g) u [] p (nothing (HasNode g))
 path_exists g u (v ∷ rest) p = one_more (HasNode g) u (v ∷ rest) p.0 (path_exists g v rest p.2)
 
@@ -59,6 +60,9 @@ numbered_exist P i (Some x ∷ xs) h =
 pub identifiers_exist : {N E : Type 0} (g : Graph N E) → All (HasNode g) (node_identifiers g)
 identifiers_exist g =
     numbered_exist (HasNode g) 0 g.nodes (λ m some. subst (HasNode g) (omega arith) some)
+
+pub order_exists : {N E : Type 0} (g : Graph N E) (order : List ℕ) → IsOrderOf g order → All (HasNode g) order
+order_exists g order o = each_member (HasNode g) order (λ n there. (o.exact n).0 there)
 
 -- the far endpoints of edges exist
 module _ {N E : Type 0} (g : Graph N E) {end : ℕ} (w : IsWellFormed end g) (dir : Direction) where

@@ -82,7 +82,7 @@ pub map-with_slot_filled : {A B : Type 0} (f : A → B) (xs : List A) (vacant : 
 map-with_slot_filled f xs [] x = map-append f xs (x ∷ [])
 map-with_slot_filled f xs (v ∷ vs) x = map-set f xs v x
 
-not_found : (m n : ℕ) → cond (nat_lt m n) (Some m) None ≡ None → n ≤ m
+pub not_found : (m n : ℕ) → cond (nat_lt m n) (Some m) None ≡ None → n ≤ m
 not_found m n none =
     elim (cases_lt m n) [
       | inl below ↦

@@ -3,3 +3,5 @@ pub mod Places
 pub mod Refused
 pub mod Lends
 pub mod Asked
+pub mod Dependencies
+pub mod Planned

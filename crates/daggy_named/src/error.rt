@@ -2,6 +2,7 @@
 //! took.
 ghost use Rattle.std.specs.Prelude.{◌≡◌};
 ghost use Rattle.daggy_named.specs.Refused.{key_and_weight_of, weight_of};
+ghost use Rattle.daggy_named.specs.Dependencies.{items_of};
 
 use thiserror::Error;
 
@@ -86,6 +87,58 @@ impl<E> DependError<E> {
             | DependError::Full(weight)
             | DependError::WouldCycle(weight)
             | DependError::Memory(weight) => weight,
+        }
+    }
+}
+
+/// The dependencies of a node were not set. It holds the items that the call took, in the same
+/// order.
+///
+/// # Examples
+///
+/// ```
+/// let mut plan: Named<&'static str, u32, u32> = Named::new(rt.alloc());
+/// plan.add_node("reap", 2)?;
+/// let needs = vec![in rt.alloc(); ("reap", 5), ("sow", 90)]?;
+/// match plan.set_dependencies("reap", needs) {
+///     Err(DependenciesError::UnknownDependency(place, items)) => {
+///         assert!(rt; place == 1);
+///         assert!(rt; items.as_slice() == [("reap", 5), ("sow", 90)].as_slice());
+///     }
+///     other => assert!(rt; other.is_ok()),
+/// }
+/// ```
+#[derive(Debug, Drop, Eq, Error, PartialEq)]
+pub enum DependenciesError<Q, E> {
+    /// No node has the key of the dependent node.
+    #[error("no node has the key of what needs them")]
+    UnknownDependent(Vec<(Q, E)>),
+    /// No node has the key of the item at this place, counted from 0, which is the first such item.
+    #[error("no node has the key of item {0}")]
+    UnknownDependency(usize, Vec<(Q, E)>),
+    /// One of the nodes to depend on is the dependent node itself or already depends on it, so its
+    /// edge would close a cycle.
+    #[error("would close a cycle")]
+    WouldCycle(Vec<(Q, E)>),
+    /// The index type has too few indices left for all the new edges.
+    #[error("no index left")]
+    Full(Vec<(Q, E)>),
+    /// Out of memory for an edge, or for the lists of nodes and edges.
+    #[error("out of memory")]
+    Memory(Vec<(Q, E)>),
+}
+
+impl<Q, E> DependenciesError<Q, E> {
+    /// Returns the items that the call took, in the same order.
+    pub fn into_items(self) -> Vec<(Q, E)>
+        ensures { result.items ≡ items_of self }
+    {
+        match self {
+            DependenciesError::UnknownDependent(items)
+            | DependenciesError::UnknownDependency(_, items)
+            | DependenciesError::WouldCycle(items)
+            | DependenciesError::Full(items)
+            | DependenciesError::Memory(items) => items,
         }
     }
 }

@@ -34,10 +34,15 @@ use std::marker::Model;
 mod changes;
 mod dependencies;
 mod keys;
+mod planning;
 mod questions;
+mod setting;
+mod topological;
 
 pub use dependencies::Dependency;
 pub use keys::{Keys, NeighborKeys};
+pub use planning::PlanByKey;
+pub use topological::TopologicalKeys;
 
 /// A dag in which each node has a unique key, by which methods refer to it.
 ///

@@ -6,5 +6,6 @@ mod limits;
 mod questions;
 mod refusals;
 mod removals;
+mod setting;
 mod steps;
 mod support;

@@ -21,6 +21,18 @@ use std::marker::Model;
 /// # Complexity
 ///
 /// O(slots) for the whole iteration, occupied or vacant.
+///
+/// # Examples
+///
+/// ```
+/// let mut plan: Named<&'static str, u32, ()> = Named::new(rt.alloc());
+/// plan.add_node("sow", 1)?;
+/// plan.add_node("reap", 2)?;
+/// let mut keys = plan.keys();
+/// assert!(rt; keys.next() == Some(&"sow"));
+/// assert!(rt; keys.next() == Some(&"reap"));
+/// assert!(rt; keys.next().is_none());
+/// ```
 #[derive(Drop)]
 pub struct Keys<'a, K: Eq + Hash, N: Drop, E: Drop, Ix: IndexType = DefaultIx> {
     named: &'a Named<K, N, E, Ix>,
@@ -67,6 +79,21 @@ impl<'a, K: Eq + Hash, N: Drop, E: Drop, Ix: IndexType> fmt::Debug for Keys<'a, 
 
 /// The keys of the nodes that a node depends on directly, or of the nodes that depend on it
 /// directly, one for each edge, newest first.
+///
+/// # Examples
+///
+/// ```
+/// let mut plan: Named<&'static str, u32, ()> = Named::new(rt.alloc());
+/// plan.add_node("sow", 1)?;
+/// plan.add_node("water", 1)?;
+/// plan.add_node("reap", 2)?;
+/// plan.add_dependency(Dependency { dependent: "reap", on: "sow" }, ())?;
+/// plan.add_dependency(Dependency { dependent: "reap", on: "water" }, ())?;
+/// if let Some(mut needs) = plan.dependencies("reap") {
+///     assert!(rt; needs.next() == Some(&"water"));
+///     assert!(rt; needs.next() == Some(&"sow"));
+/// }
+/// ```
 #[derive(Drop)]
 pub struct NeighborKeys<'a, K: Eq + Hash, N: Drop, E: Drop, Ix: IndexType = DefaultIx> {
     named: &'a Named<K, N, E, Ix>,

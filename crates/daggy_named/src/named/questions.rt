@@ -17,7 +17,7 @@ use std::hash::Hash;
 
 impl<K: Eq + Hash + Drop, N: Drop, E: Drop, Ix: IndexType> Named<K, N, E, Ix> {
     // The keys of some nodes, in the same order.
-    fn keys_of(&self, nodes: &[NodeIndex<Ix>]) -> Result<Vec<&K>, AllocError>
+    pub(crate) fn keys_of(&self, nodes: &[NodeIndex<Ix>]) -> Result<Vec<&K>, AllocError>
         requires { All (λ n. HasNode self.now.graph (Ix.number n)) nodes.now }
         ensures { IfOk result (λ found. map (key_at self.now.keys) (map Ix.number nodes.now)
             ≡ map Some (map (λ k. k.now) found.items)) }

@@ -1,7 +1,7 @@
 //! A dag whose index type has no index left.
-use super::support::{add, depend, remove};
+use super::support::{add, depend, remove, set};
 use crate::support::{made, same};
-use daggy_named::error::{AddError, DependError};
+use daggy_named::error::{AddError, DependError, DependenciesError};
 use daggy_named::named::Named;
 use std::process::Abort;
 
@@ -17,6 +17,23 @@ fn fill(rt: &impl Abort, dag: &mut Small) {
     }
 }
 
+fn listed<'a>(rt: &impl Abort, dag: &Small, items: &[(&'a u32, ())]) -> Vec<(&'a u32, ())> {
+    made(rt, items.to_vec(dag.dag().allocator()))
+}
+
+// The new edges need indices while the old edges still have theirs.
+fn set_too_many(rt: &impl Abort, dag: &mut Small) {
+    let (one, two) = (listed(rt, dag, &[(&0, ())]), listed(rt, dag, &[(&0, ())]));
+    same(rt, set(dag, &1, one), Err(DependenciesError::Full(two)));
+    // A cycle is reported before a lack of indices.
+    let (one, two) = (listed(rt, dag, &[(&1, ())]), listed(rt, dag, &[(&1, ())]));
+    same(
+        rt,
+        set(dag, &0, one),
+        Err(DependenciesError::WouldCycle(two)),
+    );
+}
+
 fn add_too_much(rt: &impl Abort, dag: &mut Small) {
     fill(rt, dag);
     same(rt, add(dag, 255, ()), Err(AddError::Full(255, ())));
@@ -26,6 +43,7 @@ fn add_too_much(rt: &impl Abort, dag: &mut Small) {
     same(rt, depend(dag, &1, &0, ()), Err(DependError::Full(())));
     let unknown = depend(dag, &1, &255, ());
     same(rt, unknown, Err(DependError::UnknownDependent(())));
+    set_too_many(rt, dag);
     // A removal makes room.
     same(rt, remove(dag, &1), Some((1, ())));
     made(rt, add(dag, 255, ()));

@@ -69,6 +69,29 @@ fn keys(rt: &impl Abort, alloc: Global, plan: &Plan, wanted: &[&'static str]) {
     named(rt, Some(made(rt, plan.keys().collect(alloc))), Some(wanted));
 }
 
+fn sorted(rt: &impl Abort, alloc: Global, plan: &Plan, wanted: &[&'static str]) {
+    let found = made(rt, plan.topological_keys().collect(alloc));
+    named(rt, Some(found), Some(wanted));
+    let mut back: Vec<&String> = made(rt, plan.topological_keys().rev().collect(alloc));
+    back.reverse();
+    named(rt, Some(back), Some(wanted));
+}
+
+// Asserts that these keys are in the stages, and these along the chain.
+fn staged(
+    rt: &impl Abort,
+    plan: &Plan,
+    wanted: &[&'static [&'static str]],
+    chain: &[&'static str],
+) {
+    let found = made(rt, plan.plan());
+    same(rt, found.stages.len(), wanted.len());
+    for (stage, keys) in found.stages.into_iter().zip(wanted) {
+        named(rt, Some(stage), Some(*keys));
+    }
+    named(rt, Some(found.chain), Some(chain));
+}
+
 fn text(rt: &impl Abort, alloc: Global, of: &str) -> String {
     made(rt, String::from_str(alloc, of))
 }
@@ -125,6 +148,23 @@ fn questions_are_asked_by_key(rt: HostRuntime) {
     users(&rt, alloc, plan, "mow", Some(&[]));
     users(&rt, alloc, plan, "rake", None);
     keys(&rt, alloc, plan, &["mow", "reap", "water", "hoe", "sow"]);
+}
+
+#[test]
+fn keys_are_sorted_and_staged(rt: HostRuntime) {
+    let alloc = rt.alloc();
+    let mut plan: Plan = Named::new(alloc);
+    sorted(&rt, alloc, &plan, &[]);
+    staged(&rt, &plan, &[], &[]);
+    for key in ["reap", "water", "sow"] {
+        made(&rt, add(&mut plan, text(&rt, alloc, key), 1));
+    }
+    put(&rt, &mut plan, "water", "sow", 2);
+    put(&rt, &mut plan, "reap", "water", 3);
+    sorted(&rt, alloc, &plan, &["sow", "water", "reap"]);
+    made(&rt, add(&mut plan, text(&rt, alloc, "mow"), 1));
+    let stages: &[&'static [&'static str]] = &[&["sow", "mow"], &["water"], &["reap"]];
+    staged(&rt, &plan, stages, &["sow", "water", "reap"]);
 }
 
 #[test]

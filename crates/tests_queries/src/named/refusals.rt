@@ -1,12 +1,12 @@
 //! Calls while memory is refused once. `rt try --test --fail-alloc N` refuses the Nth allocation: a
 //! call that is refused says so, changes nothing, and succeeds when it is made again.
 use super::steps::Numbers;
-use super::support::{add, depend, goes, index_of, remove};
+use super::support::{add, depend, goes, index_of, remove, set};
 use crate::support::{made, same};
 use daggy_base::index::NodeIndex;
-use daggy_named::error::{AddError, DependError};
+use daggy_named::error::{AddError, DependError, DependenciesError};
 use daggy_named::named::Named;
-use std::alloc::AllocError;
+use std::alloc::{AllocError, Global};
 use std::process::Abort;
 
 fn add_again(rt: &impl Abort, dag: &mut Numbers, key: u32) -> NodeIndex {
@@ -38,6 +38,57 @@ fn depend_again(rt: &impl Abort, dag: &mut Numbers, on: u32, what: u32) {
 
 fn edge_count(dag: &Numbers) -> usize {
     dag.dag().edge_count()
+}
+
+// The items again, in a list of their own.
+fn listed<'a>(rt: &impl Abort, alloc: Global, items: &[(&'a u32, u64)]) -> Vec<(&'a u32, u64)> {
+    match items.to_vec(alloc) {
+        Ok(items) => items,
+        Err(_) => made(rt, items.to_vec(alloc)),
+    }
+}
+
+fn set_again<'x>(
+    rt: &impl Abort,
+    alloc: Global,
+    dag: &mut Numbers,
+    key: &'x u32,
+    wanted: &[(&'x u32, u64)],
+) {
+    let count = edge_count(dag);
+    match set(dag, key, listed(rt, alloc, wanted)) {
+        Ok(_) => {}
+        Err(DependenciesError::Memory(items)) => {
+            same(rt, edge_count(dag), count);
+            same(rt, items.as_slice() == wanted, true);
+            made(rt, set(dag, key, items));
+        }
+        Err(_other) => panic!(rt; "the keys are known, and the edges close no cycle"),
+    }
+}
+
+// A cycle is reported even if there is no memory.
+fn is_cyclic<'x>(
+    rt: &impl Abort,
+    alloc: Global,
+    dag: &mut Numbers,
+    key: &'x u32,
+    wanted: &[(&'x u32, u64)],
+) {
+    match set(dag, key, listed(rt, alloc, wanted)) {
+        Err(DependenciesError::WouldCycle(items)) => same(rt, items.as_slice() == wanted, true),
+        _other => panic!(rt; "the edges close a cycle"),
+    }
+}
+
+// Replaces what one key depends on, and then again as it was.
+fn replace_again(rt: &impl Abort, alloc: Global, dag: &mut Numbers) {
+    is_cyclic(rt, alloc, dag, &1, &[(&0, 7), (&3, 8)]);
+    same(rt, edge_count(dag), 8);
+    set_again(rt, alloc, dag, &5, &[(&4, 7), (&3, 8), (&2, 9)]);
+    same(rt, edge_count(dag), 10);
+    set_again(rt, alloc, dag, &5, &[(&4, 5)]);
+    same(rt, edge_count(dag), 8);
 }
 
 // Asks by key.
@@ -75,6 +126,7 @@ fn call_again(rt: &impl Abort, dag: &mut Numbers) {
         (Some(a), Some(b)) => goes(rt, path, &[a, b]),
         _ => panic!(rt; "both keys are known"),
     }
+    replace_again(rt, dag.dag().allocator(), dag);
     ask_again(rt, dag);
     // A removal allocates nothing, nor does the next addition.
     same(rt, remove(dag, &8), Some((8, 8)));

@@ -4,7 +4,7 @@
 //! type, and tests call it.
 use crate::support::{made, same};
 use daggy_base::index::{EdgeIndex, IndexType, NodeIndex};
-use daggy_named::error::{AddError, DependError};
+use daggy_named::error::{AddError, DependError, DependenciesError};
 use daggy_named::named::Named;
 use std::hash::Hash;
 use std::process::Abort;
@@ -26,6 +26,15 @@ pub fn depend<K: Eq + Hash + Drop, N: Drop, E: Drop, Ix: IndexType>(
     weight: E,
 ) -> Result<EdgeIndex<Ix>, DependError<E>> {
     dag.depend(on, what, weight)
+}
+
+/// Replaces all dependencies of a node.
+pub fn set<'a, K: Eq + Hash + Drop, N: Drop, E: Drop, Ix: IndexType>(
+    dag: &mut Named<K, N, E, Ix>,
+    key: &'a K,
+    items: Vec<(&'a K, E)>,
+) -> Result<(), DependenciesError<&'a K, E>> {
+    dag.set_dependencies(key, items)
 }
 
 /// Removes a node.

@@ -1,5 +1,5 @@
-use Rattle.std.proofs.Common.{◌≡◌, ◌∙◌, ◌∷◌, [], List, ℕ, map, ap, sym, subst}
-use Rattle.daggy_base.specs.Graph.{Graph, HasNode}
+use Rattle.std.proofs.Common.{◌≡◌, ◌∙◌, ◌∷◌, [], map, ap, sym, subst}
+use Rattle.daggy_base.specs.Graph.{HasNode}
 use Rattle.daggy_reduction.proofs.OrderedParts.{joined_exist}
 use Rattle.daggy_reduction.specs.Descendants.{IsDescendantOf, IsAncestorOfAny, IsOrderOfPart}
 use Rattle.daggy_named.proofs.NamedNodes.{each_number, order_to_one, part_exists}

@@ -1,8 +1,7 @@
-use Rattle.std.proofs.Common.{◌≡◌, ◌∙◌, Some, IsSome, is_some, OnSome, ap, sym, subst, refl}
+use Rattle.std.proofs.Common.{◌≡◌, ◌∙◌, Some, IsSome, is_some, ap, sym, subst}
 use Rattle.std.specs.Option.{IfSome}
 use Rattle.daggy_base.specs.Finding.{find_edge}
 use Rattle.daggy_base.specs.Removal.{without_edge}
-use Rattle.daggy_base.specs.State.{with_graph}
 use Rattle.daggy_base.specs.Weights.{edge_weight}
 use Rattle.daggy_base.specs.declared.kind.Kind.TheVariants.{Stable}
 use Rattle.daggy_named.specs.Asked.{edge_by}

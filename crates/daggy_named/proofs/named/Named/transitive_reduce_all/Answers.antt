@@ -1,5 +1,4 @@
-use Rattle.std.proofs.Common.{◌≡◌, OnOk, ap, sym, subst}
-use Rattle.daggy_base.specs.Graph.{Graph}
+use Rattle.std.proofs.Common.{OnOk, ap, sym, subst}
 use Rattle.daggy_base.specs.declared.kind.Kind.TheVariants.{Stable}
 use Rattle.daggy_dag.specs.WholeReduction.{IsWholeReduction, JoinsCoversOnly}
 use Rattle.daggy_redundant.specs.Comparison.{HaveSameReachability}
