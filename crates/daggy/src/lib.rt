@@ -58,7 +58,7 @@ pub use daggy_cells::reference::EdgeReference;
 pub use daggy_dag::acyclic::{
     Acyclic, Children, Dag, EdgeWeightsMut, EdgesConnecting, Externals, FromGraphError,
     NodeWeightsMut, Parents, RawEdges, RawNodes, RecursiveWalk, StableDag, TopologicalOrder,
-    same_reachability,
+    TryParentsError, same_reachability,
 };
 pub use daggy_graph::graph::lists::Edges;
 pub use daggy_guard::edge_indices::EdgeIndices;

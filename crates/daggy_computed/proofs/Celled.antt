@@ -9,6 +9,7 @@ use Rattle.daggy_computed.specs.Inputs.{value_at}
 use Rattle.std.proofs.lemmas.Option.{same_Some}
 use Rattle.daggy_base.specs.Graph.{Graph, slot, node_weight, HasNode}
 use Rattle.daggy_base.specs.Weights.{with_node_weight}
+use Rattle.daggy_computed.specs.declared.cell.Cell.{Cell}
 use Rattle.daggy_computed.specs.declared.entry.Entry.{Entry}
 use Rattle.daggy_computed.specs.Cells.{blank, entry_at, value_of, IsStaleAt, marked_at, cell_of, with_entries, cells}
 use Rattle.daggy_computed.specs.Marking.{IsStale, marked, marked_with}
@@ -65,6 +66,14 @@ module _ {K V E : Type 0} (g : Graph K E) (es : List (Entry V)) where
       go : (o : Option K) → node_weight g n ≡ o → IsStale (cells g es) n
       go None h = (let none : IsSome {T = K} None = subst IsSome h there in absurd cc)
       go (Some k) h = (cell_of (entry_at es n) k, cell_at n k h, s)
+
+  -- the formula of a node
+  pub formula_cell : (n : ℕ) → option_map (λ (c : Cell K V). c.formula) (node_weight (cells g es) n) ≡ node_weight g n
+  formula_cell n = ap (option_map (λ c. c.formula)) (slot_at g.nodes es n) ∙ go (node_weight g n)
+    where
+      go : (o : Option K) → option_map (λ (c : Cell K V). c.formula) (option_map (cell_of (entry_at es n)) o) ≡ o
+      go None = refl
+      go (Some k) = refl
 
   -- the value of an existing node
   pub value_cell : (n : ℕ) → HasNode g n → value_at (cells g es) n ≡ value_of es n

@@ -20,3 +20,4 @@ pub mod Removed
 pub mod Ancestry
 pub mod Recomputed
 pub mod UpToDate
+pub mod Refusals

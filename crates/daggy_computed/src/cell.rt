@@ -1,6 +1,18 @@
 //! What a node of a `Computed` has.
 
 /// A node: what its value is computed from, and the value.
+///
+/// # Examples
+///
+/// ```
+/// let mut sums: ComputedDag<u32, u32, ()> = ComputedDag::new(rt.alloc());
+/// let hens = sums.add(3)?;
+/// let same = |formula: &u32, _inputs: Inputs<'_, u32>| -> Result<u32, ()> { Ok(*formula) };
+/// assert!(rt; sums.refresh(same).is_ok());
+/// assert!(rt; sums.set(hens, 4) == 3);
+/// let cell = sums.remove(hens);
+/// assert!(rt; cell.formula == 4 && cell.value == Some(3) && cell.stale);
+/// ```
 #[derive(Debug, PartialEq, Drop)]
 pub struct Cell<K, V> {
     /// What the node's value is computed from, in addition to the values of its parents.

@@ -149,6 +149,22 @@ where
         self.dag.contains_node(n)
     }
 
+    /// Returns the formula of a node, if it exists.
+    ///
+    /// # Examples
+    ///
+    /// ```
+    /// let mut sums: ComputedDag<u32, u32, ()> = ComputedDag::new(rt.alloc());
+    /// let hens = sums.try_add(3)?;
+    /// assert!(rt; sums.formula(hens) == Some(&3));
+    /// ```
+    pub fn formula(&self, n: NodeIndex<Ix>) -> Option<&K>
+        ensures { option_copied result
+            ≡ option_map (λ c. c.formula) (node_weight_at self.now.graph (Ix.number n)) }
+    {
+        self.dag.node_weight(n)
+    }
+
     /// Whether the parent of each item exists, as [`set_parents`](Computed::set_parents) requires.
     ///
     /// # Complexity
@@ -162,6 +178,18 @@ where
 
     /// Whether the index type has an index left for one more node, as [`add`](Computed::add)
     /// requires.
+    ///
+    /// # Examples
+    ///
+    /// ```
+    /// let mut sums: ComputedDag<u32, u32, (), u8> = ComputedDag::new(rt.alloc());
+    /// assert!(rt; sums.can_add());
+    /// for n in 0..255 {
+    ///     assert!(rt; sums.can_add() && sums.add(n).is_ok());
+    /// }
+    /// // An `u8` has no index left.
+    /// assert!(rt; !sums.can_add());
+    /// ```
     pub fn can_add(&self) -> bool
         ensures { IsTrue result ↔ (node_count_of self.now.graph < Ix.greatest) }
     {
@@ -198,6 +226,18 @@ where
     /// # Complexity
     ///
     /// O(stale nodes), and those that were stale and were removed since the last refresh.
+    ///
+    /// # Examples
+    ///
+    /// ```
+    /// let mut sums: ComputedDag<u32, u32, ()> = ComputedDag::new(rt.alloc());
+    /// let hens = sums.add(3)?;
+    /// assert!(rt; !sums.is_fresh());
+    /// let same = |formula: &u32, _inputs: Inputs<'_, u32>| -> Result<u32, ()> { Ok(*formula) };
+    /// assert!(rt; sums.refresh(same).is_ok() && sums.is_fresh());
+    /// assert!(rt; sums.set(hens, 4) == 3);
+    /// assert!(rt; !sums.is_fresh());
+    /// ```
     pub fn is_fresh(&self) -> bool
         ensures { IsTrue result ↔ ((n : ℕ) → ¬ IsStale self.now.graph n) }
     {

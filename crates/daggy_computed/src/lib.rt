@@ -12,4 +12,5 @@ mod parents;
 mod queue;
 mod refreshing;
 mod slots;
+mod trying;
 mod turn;

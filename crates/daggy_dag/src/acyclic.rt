@@ -59,6 +59,7 @@ mod retain;
 mod stable;
 mod topological;
 mod trying;
+mod trying_parents;
 mod visit;
 mod walkers;
 mod weights;
@@ -71,6 +72,7 @@ pub use externals::Externals;
 pub use from_graph::FromGraphError;
 pub use recursive::RecursiveWalk;
 pub use topological::TopologicalOrder;
+pub use trying_parents::TryParentsError;
 pub use walkers::{Children, Parents};
 
 /// A directed graph that never has a cycle, with weights of type `N` at its nodes and of type `E`

@@ -3,9 +3,9 @@ ghost use Rattle.std.specs.Prelude.{ℕ, OnOk};
 ghost use Rattle.daggy.specs.Marking.{IsStale};
 
 use crate::line::{BadLine, Line};
-use anyhow::{Result, anyhow, ensure};
+use anyhow::Result;
 use daggy::computed::{ComputedDag, Inputs, RefreshError};
-use daggy::{NodeIndex, ParentsError};
+use daggy::{NodeIndex, ParentsError, TryParentsError};
 use indexmap::IndexMap;
 use std::alloc::{AllocError, Global};
 
@@ -58,8 +58,7 @@ impl Sheet {
         if let Some(cell) = self.by_name.get(name) {
             return Ok(*cell);
         }
-        ensure!(self.cells.can_add(), "too many cells");
-        let cell = self.cells.add(None)?;
+        let cell = self.cells.try_add(None)?;
         self.by_name
             .insert(String::from_str(self.alloc, name)?, cell)?;
         Ok(cell)
@@ -81,12 +80,9 @@ impl Sheet {
         for name in line.names {
             needed.push((self.cell(name)?, ()))?;
         }
-        if !self.cells.contains_node(cell) || !self.cells.contains_parents(needed.as_slice()) {
-            return Err(BadLine::Failed(anyhow!("no such cell")));
-        }
-        match self.cells.set_parents(cell, Some(line.sum), needed) {
+        match self.cells.try_set_parents(cell, Some(line.sum), needed) {
             Ok(_) => Ok(()),
-            Err((_, ParentsError::WouldCycle(refused))) => {
+            Err((_, TryParentsError::Refused(ParentsError::WouldCycle(refused)))) => {
                 Err(BadLine::Cycle(self.cycle(cell, refused.0.as_slice())?))
             }
             Err((_, other)) => Err(BadLine::Failed(other.into())),

@@ -92,6 +92,21 @@ where
     /// # Complexity
     ///
     /// O(slots).
+    ///
+    /// # Examples
+    ///
+    /// ```
+    /// let mut dag: Dag<&'static str, ()> = Dag::new(rt.alloc());
+    /// let sow = dag.add_node("sow")?;
+    /// let reap = dag.add_node("reap")?;
+    /// let early = dag.add_edge(sow, reap, ())?;
+    /// let late = dag.add_edge(sow, reap, ())?;
+    /// let out = Vec::from_array(rt.alloc(), [early, late])?;
+    /// let into = Vec::from_array(rt.alloc(), [late, early])?;
+    /// dag.set_orders(&[(out, Vec::new(rt.alloc())), (Vec::new(rt.alloc()), into)]);
+    /// // The oldest edge is first now.
+    /// assert!(rt; dag.children(sow).walk_next(&dag).is_some_and(|step| step.0 == early));
+    /// ```
     pub fn set_orders(&mut self, orders: &[(Vec<EdgeIndex<Ix>>, Vec<EdgeIndex<Ix>>)])
         requires { AreOrders self.old.graph (map (numbers_of Ix.number) orders.now) }
         ensures ordered { self.new

@@ -3,7 +3,8 @@ use super::acts::{Act, both};
 use super::kinds::{Kind, Plain};
 use super::support::{edge, holds, made, node, same};
 use super::table::fill_nodes;
-use daggy_base::error::{EdgeError, NodeError, TryChildError, WouldCycle};
+use daggy_base::error::{EdgeError, NodeError, ParentsError, TryChildError, WouldCycle};
+use daggy_dag::acyclic::TryParentsError;
 use std::process::Abort;
 
 // Asserts that a new edge is refused so.
@@ -55,6 +56,39 @@ pub fn try_all<S: Kind>(rt: &impl Abort, dag: &mut Plain<S>) {
     same(rt, missing, Some(TryChildError::Missing(5, 6)));
     let missing = dag.try_add_parent(node(rt, 9), 5, 6).err();
     same(rt, missing, Some(TryChildError::Missing(5, 6)));
+    holds(
+        rt,
+        matches!(
+            tries_parent(rt, dag, 2, 9),
+            Err(TryParentsError::Missing(_))
+        ),
+    );
+    holds(
+        rt,
+        matches!(
+            tries_parent(rt, dag, 9, 2),
+            Err(TryParentsError::Missing(_))
+        ),
+    );
+    let cycle = tries_parent(rt, dag, 3, 2);
+    holds(
+        rt,
+        matches!(
+            cycle,
+            Err(TryParentsError::Refused(ParentsError::WouldCycle(_)))
+        ),
+    );
+}
+
+// Tries to make a node the only parent of another.
+fn tries_parent<S: Kind>(
+    rt: &impl Abort,
+    dag: &mut Plain<S>,
+    n: usize,
+    parent: usize,
+) -> Result<(), TryParentsError<u32, u8>> {
+    let items = Vec::from_array(dag.allocator(), [(node(rt, parent), 7)]);
+    dag.try_set_parents(node(rt, n), made(rt, items))
 }
 
 /// Fills the indices of nodes and then those of edges of an empty dag.
