@@ -5,13 +5,18 @@
 //! of up to 400 calls. Each begins with an empty dag. It prints how many agree. At the first history
 //! that disagrees it leaves out the calls that are not needed for that, prints the others with both
 //! answers of the last one, and exits with status 1.
+//!
+//! The kinds `computed` and `computed-stable` are computed values over a dag, which are changed and
+//! refreshed; after each refresh it compares which nodes were computed, and all values.
 #![tactic(auto)]
 
 mod comparing;
+mod computed;
 mod dag;
 mod history;
 mod shrinking;
 
+use crate::computed::Formula;
 use crate::dag::Ix;
 use crate::dag::kinds::Kind;
 use crate::history::{Fault, Played, play};
@@ -96,6 +101,10 @@ fn run(rt: &(impl Env + Print + AllocGlobal)) -> Result<bool> {
     let played = match kind {
         "compact" => play_all::<DiGraph<u64, u64, Ix>>(rt, seed, calls, &mut tally)?,
         "stable" => play_all::<StableDiGraph<u64, u64, Ix>>(rt, seed, calls, &mut tally)?,
+        "computed" => return computed::play::<DiGraph<Formula, ()>>(rt, kind, seed, calls),
+        "computed-stable" => {
+            return computed::play::<StableDiGraph<Formula, ()>>(rt, kind, seed, calls);
+        }
         _ => bail!("no such kind of dag"),
     };
     let Some(histories) = played else {

@@ -2,12 +2,6 @@
 #![tactic(auto)]
 
 #[cfg(test)]
-mod changes;
-#[cfg(test)]
-mod history;
-#[cfg(test)]
-mod model;
-#[cfg(test)]
 mod sheet;
 #[cfg(test)]
 mod tests;

@@ -4,6 +4,7 @@ use daggy_base::index::NodeIndex;
 use daggy_base::store::Store;
 use daggy_computed::computed::Computed;
 use daggy_computed::inputs::Inputs;
+use daggy_dag::acyclic::TryParentsError;
 use std::process::Abort;
 
 /// An input, or what is made of the parents' values.
@@ -44,10 +45,9 @@ pub fn add<S: Store<u32, NodeWeight = Formula, EdgeWeight = ()>>(
     sheet: &mut Computed<Formula, i64, (), u32, S>,
     formula: Formula,
 ) -> NodeIndex {
-    assert!(rt; sheet.can_add());
-    match sheet.add(formula) {
+    match sheet.try_add(formula) {
         Ok(n) => n,
-        Err(_) => panic!(rt; "no memory"),
+        Err(_) => panic!(rt; "not added"),
     }
 }
 
@@ -58,8 +58,7 @@ pub fn set<S: Store<u32, NodeWeight = Formula, EdgeWeight = ()>>(
     n: NodeIndex,
     formula: Formula,
 ) {
-    assert!(rt; sheet.contains_node(n));
-    let _old = sheet.set(n, formula);
+    assert!(rt; sheet.try_set(n, formula).is_ok());
 }
 
 /// Sets the formula and the parents of a node. Returns whether that closes no cycle.
@@ -70,9 +69,11 @@ pub fn set_parents<S: Store<u32, NodeWeight = Formula, EdgeWeight = ()>>(
     formula: Formula,
     parents: Vec<(NodeIndex, ())>,
 ) -> bool {
-    assert!(rt; sheet.contains_node(n));
-    assert!(rt; sheet.contains_parents(parents.as_slice()));
-    sheet.set_parents(n, formula, parents).is_ok()
+    match sheet.try_set_parents(n, formula, parents) {
+        Ok(_) => true,
+        Err((_, TryParentsError::Refused(_))) => false,
+        Err(_) => panic!(rt; "a node that does not exist"),
+    }
 }
 
 /// Removes a node.
@@ -81,8 +82,7 @@ pub fn remove<S: Store<u32, NodeWeight = Formula, EdgeWeight = ()>>(
     sheet: &mut Computed<Formula, i64, (), u32, S>,
     n: NodeIndex,
 ) {
-    assert!(rt; sheet.contains_node(n));
-    let _cell = sheet.remove(n);
+    assert!(rt; sheet.try_remove(n).is_some());
 }
 
 /// Makes a node stale.
@@ -91,8 +91,7 @@ pub fn invalidate<S: Store<u32, NodeWeight = Formula, EdgeWeight = ()>>(
     sheet: &mut Computed<Formula, i64, (), u32, S>,
     n: NodeIndex,
 ) {
-    assert!(rt; sheet.contains_node(n));
-    sheet.invalidate(n);
+    assert!(rt; sheet.try_invalidate(n));
 }
 
 /// Refreshes, and asserts which nodes have new values.

@@ -1,13 +1,14 @@
-//! Worked rows, for both kinds, and random changes beside a model.
+//! Worked rows, for both kinds. Random changes are played beside a model in `histories`.
 
-use crate::changes::plays_alike;
-use crate::model::{Formula as Part, Model};
 use crate::sheet::{
     Formula, add, has, invalidate, refreshes, refreshes_node, remove, set, set_parents, value,
 };
+use daggy_base::error::NodeError;
+use daggy_base::index::NodeIndex;
 use daggy_base::store::Store;
 use daggy_computed::computed::{Computed, ComputedDag, StableComputedDag};
-use std::alloc::Global;
+use daggy_dag::acyclic::TryParentsError;
+use std::alloc::{AllocError, Global};
 use std::process::Abort;
 use std::test::Fail;
 
@@ -168,26 +169,50 @@ fn one_node_is_computed_on_demand(rt: HostRuntime) -> Result<(), Fail> {
     computes_one(&rt, alloc, StableComputedDag::new(alloc))
 }
 
-// Random changes beside a model. Of the nodes that are computed, some have the value that they had.
-fn plays<S: Store<u32, NodeWeight = Part, EdgeWeight = ()>>(
+// The calls that test what others require, of nodes that do not exist, and where no index is left.
+fn refuses<S: Store<u8, NodeWeight = i64, EdgeWeight = ()>>(
     rt: &impl Abort,
     alloc: Global,
-    mut sheet: Computed<Part, i64, (), u32, S>,
+    mut sums: Computed<i64, i64, (), u8, S>,
 ) -> Result<(), Fail> {
-    let mut model = Model::new(alloc)?;
-    assert!(rt; plays_alike(alloc, &mut sheet, &mut model, 3_000)?);
-    assert!(rt; model.computed > 1_000 && model.kept > 100);
+    let Ok(n) = sums.try_add(3) else {
+        panic!(rt; "not added");
+    };
+    let missing = NodeIndex::new(9);
+    assert!(rt; sums.formula(n) == Some(&3) && sums.formula(missing).is_none());
+    assert!(rt; sums.try_set(missing, 5) == Err(5));
+    assert!(rt; !sums.try_invalidate(missing));
+    assert!(rt; sums.try_remove(missing).is_none());
+    assert!(rt; is_missing(alloc, &mut sums, n, missing)?);
+    assert!(rt; is_missing(alloc, &mut sums, missing, n)?);
+    assert!(rt; !is_missing(alloc, &mut sums, n, n)?);
+    for _ in 1..255 {
+        assert!(rt; sums.try_add(1).is_ok());
+    }
+    assert!(rt; sums.try_add(7) == Err(NodeError::Full(7)));
+    assert!(rt; sums.try_remove(n).is_some_and(|cell| cell.formula == 3));
     Ok(())
 }
 
-#[test]
-fn a_model_agrees(rt: HostRuntime) -> Result<(), Fail> {
-    let alloc = rt.alloc();
-    plays(&rt, alloc, ComputedDag::new(alloc))
+// Whether a node does not get a parent because one of the two does not exist.
+fn is_missing<S: Store<u8, NodeWeight = i64, EdgeWeight = ()>>(
+    alloc: Global,
+    sums: &mut Computed<i64, i64, (), u8, S>,
+    n: NodeIndex<u8>,
+    parent: NodeIndex<u8>,
+) -> Result<bool, AllocError> {
+    let parents = Vec::from_array(alloc, [(parent, ())])?;
+    match sums.try_set_parents(n, 4, parents) {
+        Err((formula, TryParentsError::Missing(parents))) => {
+            Ok(formula == 4 && parents.as_slice() == [(parent, ())].as_slice())
+        }
+        _ => Ok(false),
+    }
 }
 
 #[test]
-fn a_model_agrees_with_the_stable_kind(rt: HostRuntime) -> Result<(), Fail> {
+fn what_does_not_exist_is_refused(rt: HostRuntime) -> Result<(), Fail> {
     let alloc = rt.alloc();
-    plays(&rt, alloc, StableComputedDag::new(alloc))
+    refuses(&rt, alloc, ComputedDag::new(alloc))?;
+    refuses(&rt, alloc, StableComputedDag::new(alloc))
 }

@@ -1,30 +1,9 @@
-//! Random changes of computed values, beside a model.
+//! Refreshes of computed values and of their model.
 
-use crate::model::{Formula, LIMIT, Model, Node, is_in, joined, only, value_of};
-use daggy_base::index::NodeIndex;
-use daggy_base::store::Store;
-use daggy_computed::computed::Computed;
-use daggy_computed::error::RefreshError;
-use daggy_computed::inputs::Inputs;
-use std::alloc::{AllocError, Global};
+use super::model::{Formula, LIMIT, Model, is_in, joined, only, value_of};
+use daggy::computed::{Computed, Inputs, RefreshError};
+use daggy::{NodeIndex, Store};
 use std::cell::Cell;
-
-/// Random numbers.
-#[derive(Drop)]
-pub struct Random {
-    pub state: u64,
-}
-
-impl Random {
-    /// A number below `n`, if that is not 0.
-    pub fn below(&mut self, n: u64) -> u64 {
-        self.state = self
-            .state
-            .wrapping_mul(0x5851_f42d_4c95_7f2d)
-            .wrapping_add(0x1405_7b7e_f767_814f);
-        (self.state >> 33).checked_rem(n).unwrap_or(0)
-    }
-}
 
 // The value of a node.
 fn value(formula: &Formula, inputs: Inputs<'_, i64>) -> i64 {

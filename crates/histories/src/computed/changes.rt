@@ -1,17 +1,17 @@
 //! Random changes, in computed values and in their model.
 
-use crate::history::{Random, refreshes_alike};
-use crate::model::{Formula, LIMIT, Model, Node, is_in};
-use daggy_base::index::NodeIndex;
-use daggy_base::kind::Kind;
-use daggy_base::store::Store;
-use daggy_computed::computed::Computed;
+use super::model::{Formula, LIMIT, Model, Node};
+use super::refreshes::refreshes_alike;
+use daggy::computed::Computed;
+use daggy::run::Kind;
+use daggy::{NodeIndex, Store};
+use histories_model::random::Random;
 use std::alloc::{AllocError, Global};
 
 // A formula of a node. One in 256 fails.
 fn formula(n: usize, random: &mut Random) -> Formula {
     let number = i64::try_from(random.below(3)).unwrap_or(0);
-    let fails = random.below(256) == 0;
+    let fails = random.once_in(256);
     Formula {
         node: n,
         number,
@@ -21,7 +21,7 @@ fn formula(n: usize, random: &mut Random) -> Formula {
 
 // A node of the model. None if the number that was drawn is that of no node.
 fn any_node(model: &Model, random: &mut Random) -> Option<usize> {
-    let n = random.below(LIMIT as u64) as usize;
+    let n = random.below(LIMIT);
     model.get(n)?;
     Some(n)
 }
@@ -37,10 +37,7 @@ fn add<S: Store<u32, NodeWeight = Formula, EdgeWeight = ()>>(
         return true;
     };
     let formula = formula(n, random);
-    if !sheet.can_add() {
-        return false;
-    }
-    let Ok(at) = sheet.add(formula) else {
+    let Ok(at) = sheet.try_add(formula) else {
         return false;
     };
     let node = Node {
@@ -63,11 +60,7 @@ fn set<S: Store<u32, NodeWeight = Formula, EdgeWeight = ()>>(
     let Some(node) = model.get_mut(n) else {
         return false;
     };
-    if !sheet.contains_node(node.at) {
-        return false;
-    }
-    let old = sheet.set(node.at, formula);
-    let same = old == node.formula;
+    let same = sheet.try_set(node.at, formula) == Ok(node.formula);
     node.formula = formula;
     node.stale = true;
     same
@@ -113,10 +106,7 @@ fn set_parents<S: Store<u32, NodeWeight = Formula, EdgeWeight = ()>>(
     let Some(node) = model.get_mut(n) else {
         return Ok(false);
     };
-    if !sheet.contains_node(node.at) || !sheet.contains_parents(items.as_slice()) {
-        return Ok(false);
-    }
-    if sheet.set_parents(node.at, formula, items).is_err() {
+    if sheet.try_set_parents(node.at, formula, items).is_err() {
         return Ok(closes);
     }
     node.parents = parents;
@@ -134,12 +124,8 @@ fn invalidate<S: Store<u32, NodeWeight = Formula, EdgeWeight = ()>>(
     let Some(node) = model.get_mut(n) else {
         return false;
     };
-    if !sheet.contains_node(node.at) {
-        return false;
-    }
-    sheet.invalidate(node.at);
     node.stale = true;
-    true
+    sheet.try_invalidate(node.at)
 }
 
 // Removes a node.
@@ -152,10 +138,9 @@ fn remove<S: Store<u32, NodeWeight = Formula, EdgeWeight = ()>>(
         return false;
     };
     let at = node.at;
-    if !sheet.contains_node(at) {
+    let Some(cell) = sheet.try_remove(at) else {
         return false;
-    }
-    let cell = sheet.remove(at);
+    };
     let same = cell.formula == node.formula && cell.value == node.value && cell.stale == node.stale;
     model.remove(n);
     match S::KIND {
@@ -193,18 +178,18 @@ fn step<S: Store<u32, NodeWeight = Formula, EdgeWeight = ()>>(
     })
 }
 
-/// Plays random changes. Returns whether the model agreed each time.
-pub fn plays_alike<S: Store<u32, NodeWeight = Formula, EdgeWeight = ()>>(
+/// Makes random changes, and returns the number of the first one at which the model disagrees.
+pub fn first_difference<S: Store<u32, NodeWeight = Formula, EdgeWeight = ()>>(
     alloc: Global,
     sheet: &mut Computed<Formula, i64, (), u32, S>,
     model: &mut Model,
-    steps: u32,
-) -> Result<bool, AllocError> {
-    let mut random = Random { state: 1 };
-    for _ in 0..steps {
-        if !step(alloc, sheet, model, &mut random)? {
-            return Ok(false);
+    random: &mut Random,
+    changes: usize,
+) -> Result<Option<usize>, AllocError> {
+    for change in 0..changes {
+        if !step(alloc, sheet, model, random)? {
+            return Ok(Some(change));
         }
     }
-    Ok(true)
+    Ok(None)
 }

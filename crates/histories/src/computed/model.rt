@@ -1,6 +1,6 @@
 //! A model of computed values: lists that are searched in the most obvious way.
 
-use daggy_base::index::NodeIndex;
+use daggy::NodeIndex;
 use std::alloc::{AllocError, Global};
 
 /// The most nodes that there are. Each has a bit in a set of nodes. A refresh of a dag of this size
