@@ -55,6 +55,15 @@ expect 0 "$replies" '' 0 stable
 expect 0 "$replies"$'\nstage n0\nstage n1\nchain n0 n1' '' 0 plan compact
 expect 0 "$replies"$'\nstage n0\nstage n1\nchain n0 n1' '' 0 plan stable
 
+# What is wrong with lines is told on standard error, with nothing on standard output.
+good=$lines
+expect 0 '' '' 0 --explain
+lines=$'node 1\nedge 0 1\n\nfrob\nchildren 0 0'
+expect 0 '' $'line 2: "edge" lacks a weight\nline 3: no command\nline 4: "frob" is no command\nline 5: "0" is one word too many' 0 --explain
+expect 1 '' 'dagbench: out of memory' 1 --explain
+fails 'dagbench: read failed' / /dev/null --explain
+lines=$good
+
 # A directory cannot be read, and a full device takes nothing.
 printf '%s' "$lines" >"$shim.lines"
 for kind in compact stable; do

@@ -16,7 +16,7 @@ CONSTANT = {
     "Chain": "new",
     "ChildError": "into_weights",
     "Components": "component_of count iter members",
-    "Computed": "can_add changed contains_node dag invalidate last_value new set",
+    "Computed": "can_add changed contains_node dag formula invalidate last_value new set try_invalidate try_set",
     "Cycle": "new",
     "Dag": "allocator can_add_edge can_add_node children contains_node edge_count edge_endpoints edge_weight "
     "edge_weight_mut edge_weights_mut edges edges_directed graph into_graph into_parts neighbors "
@@ -25,6 +25,7 @@ CONSTANT = {
     "DataMap": "edge_weight node_weight",
     "DataMapMut": "edge_weight_mut node_weight_mut",
     "DependError": "into_weight",
+    "DependenciesError": "into_items",
     "DiGraph": "can_add_edge can_add_node contains_edge_index contains_node edge_count edge_endpoints edge_weight "
     "edge_weight_mut edge_weights_mut edges edges_directed first_edge into_raw neighbors "
     "neighbors_directed new next_edge node_count node_weight node_weight_mut node_weights_mut raw_edges "

@@ -35,7 +35,7 @@ GROUPS = [
     ("dag", "Edges one by one", "edge_count can_add_edge edge_endpoints find_edge contains_edge add_edge try_add_edge update_edge "
      "try_update_edge add_child try_add_child add_parent try_add_parent remove_edge retain_edges clear_edges edge_identifiers "
      "edge_indices edge_references edges_connecting"),
-    ("dag", "Batches of edges", "add_edges extend_with_edges set_parents contains_parents"),
+    ("dag", "Batches of edges", "add_edges extend_with_edges set_parents try_set_parents contains_parents"),
     ("dag", "Weights", "[n] [e] node_weight edge_weight node_weights edge_weights node_weight_mut edge_weight_mut "
      "node_weights_mut edge_weights_mut update_node_weights update_edge_weights recompute try_recompute update_two_nodes "
      "update_two_edges update_node_and_edge map filter_map"),
@@ -60,7 +60,7 @@ FIRST = {
     "computed": ["Computed", "ComputedDag", "StableComputedDag", "Inputs", "Cell", "RefreshError"],
     "operators": ["subgraph", "reverse", "have_same_reachability"],
     "run": ["run", "perform", "Command", "Reply", "Back", "plan", "Plan", "GuardedDag"],
-    "json": ["dag_to_json", "stable_to_json", "write_json", "dag_from_json", "stable_from_json"],
+    "json": ["dag_to_json", "stable_to_json", "write_json", "write_short_json", "dag_from_json", "stable_from_json"],
     "formats": ["mermaid", "graphml", "node_table", "edge_table", "Document", "Format", "Escape"],
     "search": ["reaches", "is_acyclic", "path_in", "reaches_in", "affected", "descendants", "redundant_edges",
                "redundant_edges_in", "redundant_edges_by_blocks", "transitive_reduce", "transitive_closure", "order_edge",

@@ -15,6 +15,24 @@ use std::marker::Model;
 /// The components of a graph, numbered from 0: the members of each, and the component of each node.
 ///
 /// It takes memory for two indices per node and a number per component.
+///
+/// # Examples
+///
+/// ```
+/// let mut graph: DiGraph<&'static str, ()> = DiGraph::new(rt.alloc());
+/// let hen = graph.add_node("hen")?;
+/// let egg = graph.add_node("egg")?;
+/// let cake = graph.add_node("cake")?;
+/// graph.add_edge(hen, egg, ())?;
+/// graph.add_edge(egg, hen, ())?;
+/// graph.add_edge(egg, cake, ())?;
+/// let components = strongly_connected_components(rt.alloc(), &mut Reading::new(&graph))?;
+/// assert!(rt; components.count() == 2);
+/// // A component has a lower number than those that lead to it.
+/// assert!(rt; components.component_of(cake) == Some(0));
+/// assert!(rt; components.component_of(egg) == Some(1));
+/// assert!(rt; components.iter().map(|members| members.len()).max() == Some(2));
+/// ```
 #[derive(Drop)]
 pub struct Components<Ix: IndexType> {
     // The members of the first component, then those of the second, and so on.
@@ -84,6 +102,16 @@ impl<Ix: IndexType> Components<Ix> {
     }
 
     /// The members of the component `k`, or none if there is no such component.
+    ///
+    /// # Examples
+    ///
+    /// ```
+    /// let mut graph: DiGraph<&'static str, ()> = DiGraph::new(rt.alloc());
+    /// let hen = graph.add_node("hen")?;
+    /// let components = weakly_connected_components(rt.alloc(), &graph)?;
+    /// assert!(rt; components.members(0) == [hen].as_slice());
+    /// assert!(rt; components.members(1).is_empty());
+    /// ```
     pub fn members(&self, k: usize) -> &[NodeIndex<Ix>]
         ensures { map Ix.number result.now ≡ component self.now k }
     {

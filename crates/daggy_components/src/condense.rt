@@ -147,6 +147,23 @@ fn edge_slots<Ix: IndexType, S: EdgeSource<Ix>>(
 /// # Complexity
 ///
 /// O(nodes + edges); each edge is read at most once.
+///
+/// # Examples
+///
+/// ```
+/// let mut graph: DiGraph<&'static str, ()> = DiGraph::new(rt.alloc());
+/// let hen = graph.add_node("hen")?;
+/// let egg = graph.add_node("egg")?;
+/// let cake = graph.add_node("cake")?;
+/// graph.add_edge(hen, egg, ())?;
+/// graph.add_edge(egg, hen, ())?;
+/// let used = graph.add_edge(egg, cake, ())?;
+/// let mut source = Reading::new(&graph);
+/// let components = strongly_connected_components(rt.alloc(), &mut source)?;
+/// let (nodes, edges) = condensation_slots(rt.alloc(), &mut source, &components)?;
+/// assert!(rt; nodes.len() == 2 && edges.len() == 1);
+/// assert!(rt; edges[0].is_some_and(|edge| edge.2 == used));
+/// ```
 pub fn condensation_slots<Ix: IndexType, S: EdgeSource<Ix>>(
     alloc: Global,
     source: &mut S,

@@ -59,7 +59,7 @@ fn edges_between<
 {
     // Called for its contract: what always holds of a store.
     store.invariant();
-    let mut slots = Vec::new(alloc);
+    let mut slots = Vec::with_capacity(alloc, store.edge_count())?;
     'edges: for i in 0..store.edge_slots() {
         let e = EdgeIndex::new(i);
         let Some((j, k)) = crossed(store, components, e) else {

@@ -34,6 +34,20 @@ fn next_place(k: usize, len: usize) -> usize
 /// # Complexity
 ///
 /// O(children of the nodes).
+///
+/// # Examples
+///
+/// ```
+/// let mut graph: DiGraph<&'static str, ()> = DiGraph::new(rt.alloc());
+/// let hen = graph.add_node("hen")?;
+/// let egg = graph.add_node("egg")?;
+/// let laid = graph.add_edge(hen, egg, ())?;
+/// let hatched = graph.add_edge(egg, hen, ())?;
+/// if let Some(cycle) = find_cycle(rt.alloc(), &mut Reading::new(&graph))? {
+///     let edges = cycle_edges(rt.alloc(), &graph, cycle.as_slice())?;
+///     assert!(rt; edges.as_slice() == [laid, hatched].as_slice());
+/// }
+/// ```
 pub fn cycle_edges<Ix: IndexType, S: ReadStore<Ix>>(
     alloc: Global,
     store: &S,

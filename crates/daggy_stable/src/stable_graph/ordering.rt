@@ -67,6 +67,21 @@ impl<N, E, Ix: IndexType> StableDiGraph<N, E, Ix> {
     /// # Complexity
     ///
     /// O(slots). Does not allocate.
+    ///
+    /// # Examples
+    ///
+    /// ```
+    /// let mut graph: StableDiGraph<&'static str, ()> = StableDiGraph::new(rt.alloc());
+    /// let sow = graph.add_node("sow")?;
+    /// let reap = graph.add_node("reap")?;
+    /// let early = graph.add_edge(sow, reap, ())?;
+    /// let late = graph.add_edge(sow, reap, ())?;
+    /// let out = Vec::from_array(rt.alloc(), [early, late])?;
+    /// let into = Vec::from_array(rt.alloc(), [late, early])?;
+    /// graph.set_orders(&[(out, Vec::new(rt.alloc())), (Vec::new(rt.alloc()), into)]);
+    /// // The oldest edge is first now.
+    /// assert!(rt; graph.find_edge(sow, reap) == Some(early));
+    /// ```
     pub fn set_orders(&mut self, orders: &[(Vec<EdgeIndex<Ix>>, Vec<EdgeIndex<Ix>>)])
         requires { AreOrders self.old.graph (map (numbers_of Ix.number) orders.now) }
         ensures { self.new

@@ -24,6 +24,16 @@ impl<N, E, Ix: IndexType> StableDiGraph<N, E, Ix> {
     /// # Complexity
     ///
     /// O(edges before it in its two lists), so O(1) for the edge added last. Does not allocate.
+    ///
+    /// # Examples
+    ///
+    /// ```
+    /// let mut graph: StableDiGraph<&'static str, u32> = StableDiGraph::new(rt.alloc());
+    /// let sow = graph.add_node("sow")?;
+    /// let days = graph.add_edge(sow, sow, 90)?;
+    /// assert!(rt; graph.take_back_edge(days, true) == 90);
+    /// assert!(rt; graph.edge_slots() == 0);
+    /// ```
     pub fn take_back_edge(&mut self, e: EdgeIndex<Ix>, made: bool) -> E
         requires exists { HasEdge self.old.graph (Ix.number e) }
         requires last { IsTrue made → Ix.number e + 1 ≡ length self.old.graph.edges }
@@ -64,6 +74,15 @@ impl<N, E, Ix: IndexType> StableDiGraph<N, E, Ix> {
     /// # Complexity
     ///
     /// O(1). Does not allocate.
+    ///
+    /// # Examples
+    ///
+    /// ```
+    /// let mut graph: StableDiGraph<&'static str, u32> = StableDiGraph::new(rt.alloc());
+    /// let sow = graph.add_node("sow")?;
+    /// assert!(rt; graph.take_back_node(sow, true) == "sow");
+    /// assert!(rt; graph.node_slots() == 0);
+    /// ```
     pub fn take_back_node(&mut self, n: NodeIndex<Ix>, made: bool) -> N
         requires exists { HasNode self.old.graph (Ix.number n) }
         requires no_edges { (dir : Direction) → list_at dir self.old.graph (Ix.number n) ≡ [] }

@@ -42,7 +42,7 @@ edges-init g c =
     (edges_by g.Ix.IndexType.number z) 0 in
     record {
       can = c.requires.callable;
-      kept = subst P (sym c.new-slots.ensures.items)
+      kept = subst P (sym c.in_ok-slots.ensures.items)
           (kept_none (goal.F-step g) g.Ix.IndexType.of c.args.components.now c.args.f edges);
     }
 
