@@ -70,13 +70,13 @@ same_descending (x ∷ xs) (y ∷ ys) d f there back =
 -- lists of lists, row by row
 pub same_rows : (xs ys : List (List ℕ)) → length xs ≡ length ys
     → ((n : ℕ) → n < length xs → row xs n ≡ row ys n) → xs ≡ ys
-same_rows [] [] long rows = refl
-same_rows [] (y ∷ ys) long rows = absurd (omega (arith, long))
-same_rows (x ∷ xs) [] long rows = absurd (omega (arith, long))
-same_rows (x ∷ xs) (y ∷ ys) long rows =
-    ap (λ z. z ∷ xs) (rows 0 (omega arith))
+same_rows [] [] long alike = refl
+same_rows [] (y ∷ ys) long alike = absurd (omega (arith, long))
+same_rows (x ∷ xs) [] long alike = absurd (omega (arith, long))
+same_rows (x ∷ xs) (y ∷ ys) long alike =
+    ap (λ z. z ∷ xs) (alike 0 (omega arith))
     ∙ ap (λ l. y ∷ l)
-    (same_rows xs ys (omega (arith, long)) (λ n low. rows (suc n) (omega (arith, low))))
+    (same_rows xs ys (omega (arith, long)) (λ n low. alike (suc n) (omega (arith, low))))
 
 -- ---- by what follows each member
 
