@@ -8,6 +8,7 @@ pub mod Cuts
 pub mod Rounds
 pub mod NotedEdges
 pub mod Gathering
+pub mod EarlierSlots
 pub mod Condensing
 pub mod Condensed
 pub mod MetChildren

@@ -88,7 +88,7 @@ impl<Ix: IndexType> Components<Ix> {
         self.ends.len()
     }
 
-    /// The members of each component, by the numbers of the components.
+    /// The members of each component, in the order of the components' numbers.
     #[inline]
     pub fn iter(&self) -> Iter<'_, Ix>
         ensures rest { result ≡ self.now }
@@ -140,7 +140,8 @@ impl<Ix: IndexType> Components<Ix> {
     }
 }
 
-/// The members of each component, by the numbers of the components.
+/// The members of each component, in the order of the components' numbers, as
+/// [`iter`](Components::iter) returns them.
 #[derive(Drop)]
 pub struct Iter<'a, Ix: IndexType> {
     components: &'a Components<Ix>,

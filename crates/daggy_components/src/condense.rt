@@ -61,15 +61,37 @@ fn noted<Ix: IndexType>(
     }
 }
 
+// The same, where the slots before `begin` hold no such edge.
+fn noted_from<Ix: IndexType>(
+    slots: &EdgeSlots<Ix>,
+    begin: usize,
+    at: usize,
+    j: usize,
+    k: usize,
+) -> Option<EdgeIndex<Ix>>
+    requires { (i : ℕ) → i < begin → ¬ Joins (edges_by Ix.number slots.now.items) i j k }
+    ensures some { IfSome result (λ e. slot (edges_by Ix.number slots.now.items) at
+        ≡ Some (record { parent = j; child = k; weight = e })) }
+    ensures none { IfNone result (¬ Joins (edges_by Ix.number slots.now.items) at j k) }
+{
+    if at < begin {
+        return None;
+    }
+    noted(slots, at, j, k)
+}
+
 // Notes an edge from the component `j` to the component `k`. If one was noted already, the one with
-// the smaller index is left.
+// the smaller index is left. The slots before `begin` have no edge from `j`, so they are not read:
+// most of them would have to come from memory.
 fn note<Ix: IndexType>(
     slots: &mut EdgeSlots<Ix>,
     found: &mut Vec<usize>,
+    begin: usize,
     j: usize,
     k: usize,
     e: EdgeIndex<Ix>,
 ) -> Result<(), AllocError>
+    requires before { (i : ℕ) → i < begin → ¬ Joins (edges_by Ix.number slots.old.items) i j k }
     requires from { j ≤ Ix.greatest }
     requires to { k ≤ Ix.greatest }
     requires within { k < vec_len found.old }
@@ -81,7 +103,7 @@ fn note<Ix: IndexType>(
 {
     let edge = (NodeIndex::new(j), NodeIndex::new(k), e);
     let at = found[k];
-    let Some(least) = noted(slots, at, j, k) else {
+    let Some(least) = noted_from(slots, begin, at, j, k) else {
         found[k] = slots.len();
         slots.push(Some(edge))?;
         return Ok(());
@@ -115,13 +137,14 @@ fn edge_slots<Ix: IndexType, S: EdgeSource<Ix>>(
     // For each component, which slot may hold an edge that leads to it from the component at hand.
     let mut found = vec![in alloc; 0; components.count()]?;
     'components: for j in 0..components.count() {
+        let begin = slots.len();
         'members: for n in components.members(j) {
             let mut e = source.first(*n);
             'edges: while e.index() != end {
                 let (v, next) = source.look(e);
                 let k = components.component_of(v).unwrap();
                 if k != j {
-                    note(&mut slots, &mut found, j, k, e)?;
+                    note(&mut slots, &mut found, begin, j, k, e)?;
                 }
                 e = next;
             }
@@ -195,7 +218,7 @@ pub fn condensation_slots<Ix: IndexType, S: EdgeSource<Ix>>(
 /// an edge for each pair of components that edges connect, with the smallest index of these edges.
 ///
 /// Node `k` is the component `k`. A node of the graph reaches another if and only if its component
-/// reaches that of the other.
+/// reaches the other node's component.
 ///
 /// # Requires
 ///

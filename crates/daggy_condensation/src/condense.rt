@@ -18,7 +18,7 @@ use std::alloc::{AllocError, Global};
 /// these edges.
 ///
 /// Node `k` is the component `k`. A node of the graph reaches another if and only if its component
-/// reaches that of the other.
+/// reaches the other node's component.
 ///
 /// # Requires
 ///

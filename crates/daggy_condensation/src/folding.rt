@@ -40,17 +40,39 @@ fn weight_in<Ix: IndexType, W: Drop>(
     }
 }
 
+// The same, where the slots before `begin` hold no such edge. They are not read: most of them would
+// have to come from memory.
+fn weight_from<Ix: IndexType, W: Drop>(
+    slots: &Edges<Ix, W>,
+    begin: usize,
+    at: usize,
+    j: usize,
+    k: usize,
+) -> Option<&W>
+    requires { (i : ℕ) → i < begin → ¬ Joins (edges_by Ix.number slots.now.items) i j k }
+    ensures some { IfSome result (λ w. slot (edges_by Ix.number slots.now.items) at
+        ≡ Some (record { parent = j; child = k; weight = w.now })) }
+    ensures none { IfNone result (¬ Joins (edges_by Ix.number slots.now.items) at j k) }
+{
+    if at < begin {
+        return None;
+    }
+    weight_in(slots, at, j, k)
+}
+
 // Folds an edge from the component `j` to the component `k` into the slot of these two. If they have
-// none, it gets a new one, which is noted for `k`.
+// none, it gets a new one, which is noted for `k`. The slots before `begin` have no edge from `j`.
 fn fold_edge<Ix: IndexType, E: Drop, W: Drop, F: Fn(Option<W>, EdgeIndex<Ix>, &E) -> W>(
     slots: &mut Edges<Ix, W>,
     found: &mut Vec<usize>,
+    begin: usize,
     j: usize,
     k: usize,
     e: EdgeIndex<Ix>,
     weight: &E,
     f: &F,
 ) -> Result<(), AllocError>
+    requires before { (i : ℕ) → i < begin → ¬ Joins (edges_by Ix.number slots.old.items) i j k }
     requires from { j ≤ Ix.greatest }
     requires to { k ≤ Ix.greatest }
     requires within { k < vec_len found.old }
@@ -69,7 +91,7 @@ fn fold_edge<Ix: IndexType, E: Drop, W: Drop, F: Fn(Option<W>, EdgeIndex<Ix>, &E
         found.old.items found.new.items j k made)) }
 {
     let at = found[k];
-    if let Some(_) = weight_in(slots, at, j, k) {
+    if let Some(_) = weight_from(slots, begin, at, j, k) {
         let (a, b, given) = slots[at].take().unwrap();
         slots[at] = Some((a, b, f(Some(given), e, weight)));
         return Ok(());
@@ -103,6 +125,7 @@ fn folded_edges<
     // For each component, which slot may hold an edge that leads to it from the component at hand.
     let mut found = vec![in alloc; 0; components.count()]?;
     'components: for j in 0..components.count() {
+        let begin = slots.len();
         'members: for n in components.members(j) {
             let mut e = source.first(*n);
             'edges: while e.index() != end {
@@ -110,7 +133,7 @@ fn folded_edges<
                 let k = components.component_of(v).unwrap();
                 if k != j {
                     let weight = store.edge_weight(e).unwrap();
-                    fold_edge(&mut slots, &mut found, j, k, e, weight, f)?;
+                    fold_edge(&mut slots, &mut found, begin, j, k, e, weight, f)?;
                 }
                 e = next;
             }
@@ -123,19 +146,19 @@ fn folded_edges<
 /// for each component, with its members, and an edge for each pair of components that edges connect,
 /// with what `f` makes of the weights of these edges.
 ///
-/// `f` is called for each edge between two components, with what it returned for the one before it
-/// between the same two, or `None` if it is the first. The edges of a component are read member by
-/// member, each list from its front. Edges within a component are left out.
+/// For each edge between two components, `f` is called with its own result for the previous edge
+/// between these components, or with `None` for the first. The edges of a component are read member
+/// by member, each list from its front. Edges within a component are left out.
 ///
 /// Node `k` is the component `k`. A node of the graph reaches another if and only if its component
-/// reaches that of the other.
+/// reaches the other node's component.
 ///
 /// # Requires
 ///
 /// - `components`: They are the strongly connected components of the graph, as
 ///   `strongly_connected_components` returns them.
 /// - `callable`: `f` may be called with each edge between two components, its weight, and what `f`
-///   returned for the edges before it between the same two.
+///   returned for the edges before it between the same two components.
 ///
 /// # Errors
 ///

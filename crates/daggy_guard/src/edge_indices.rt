@@ -43,11 +43,11 @@ impl<Ix: IndexType> EdgeIndices<Ix> {
         EdgeIndices { indices, at: 0 }
     }
 
-    /// The indices that were not yielded yet, as a list. Does not allocate.
+    /// The indices that have not been yielded yet, as a list. Does not allocate.
     ///
     /// # Complexity
     ///
-    /// O(1) if none was yielded before, and otherwise O(indices left), which are moved.
+    /// O(1) if none has been yielded yet, and otherwise O(indices left), since these are moved.
     pub fn into_vec(self) -> Vec<EdgeIndex<Ix>>
         ensures { map Ix.number result.items ≡ self }
     {
