@@ -6,6 +6,7 @@ ghost use Rattle.answers.specs.Answers.{HasOnly};
 use crate::edges::sorted_endpoints;
 use crate::walks::{breadth_first, depth_first, in_postorder};
 use anyhow::{Result, bail};
+use daggy::operators::lowest_common_ancestors;
 use daggy::schedule::{Schedule, topological_order_by};
 use daggy::{Acyclic, NodeIndex, Store};
 use std::alloc::Global;
@@ -48,7 +49,8 @@ pub fn add_edge<S: Store<u32, NodeWeight = u64, EdgeWeight = ()>>(
     Ok(())
 }
 
-/// Writes whether a path leads from a node to another, and how many edges a shortest one has.
+/// Writes whether a path leads from a node to another, how many edges a shortest one has, and the
+/// lowest common ancestors of the two.
 pub fn write_path<S: Store<u32, NodeWeight = u64, EdgeWeight = ()>, W: Write>(
     out: &mut W,
     dag: &mut Timed<S>,
@@ -63,7 +65,9 @@ pub fn write_path<S: Store<u32, NodeWeight = u64, EdgeWeight = ()>, W: Write>(
     if let Some(path) = dag.path(from, to)? {
         write!(out, " {}", path.len().saturating_sub(1))?;
     }
-    writeln!(out)?;
+    write!(out, "\ncommon {a} {b}:")?;
+    let common = lowest_common_ancestors(dag.allocator(), dag, from, to)?;
+    write_nodes(out, common.as_slice())?;
     Ok(())
 }
 

@@ -50,7 +50,7 @@ where
 {
     // Called for its contract, here and below: the dag is well formed, and so is the copy.
     let _count = dag.node_count();
-    let marks = all_marks(alloc, dag.graph().node_slots())?;
+    let marks = all_marks(alloc, dag.graph().node_slots(), true)?;
     let whole: StableDag<&N, (), Jx> = part(alloc, dag, &marks, Direction::Outgoing)?;
     let mut shape = whole.map(|_, _| (), |_, _| ())?;
     let _count = shape.node_count();
@@ -61,8 +61,9 @@ where
 /// Whether two dags, of either kind and of any index types, have the same nodes and the same
 /// reachability relation.
 ///
-/// `same_reachability` does the same for two `Dag`s with the same index type. It reduces a copy of
-/// each dag, without weights, from all nodes, and compares which nodes are adjacent afterwards.
+/// `same_reachability` does the same for two `Dag`s with the same index type. It copies each dag
+/// without its weights, reduces the copies from all nodes, and compares which nodes are then
+/// adjacent.
 ///
 /// # Errors
 ///

@@ -95,6 +95,6 @@ where
 {
     let _count = dag.node_count();
     let store = dag.graph();
-    let marks = all_marks(alloc, store.node_slots())?;
+    let marks = all_marks(alloc, store.node_slots(), true)?;
     part(alloc, dag, &marks, Direction::Incoming)
 }

@@ -37,12 +37,12 @@ pub(crate) fn marks_of<Ix: IndexType>(
     Ok(marks)
 }
 
-// As many marks as there are slots, all of them set.
-pub(crate) fn all_marks(alloc: Global, slots: usize) -> Result<Vec<bool>, AllocError>
-    ensures { IfOk result (λ marks. marks.items ≡ replicate slots true) }
+// As many marks as there are slots, all of them set or all of them not set.
+pub(crate) fn all_marks(alloc: Global, slots: usize, mark: bool) -> Result<Vec<bool>, AllocError>
+    ensures { IfOk result (λ marks. marks.items ≡ replicate slots mark) }
 {
     let mut marks = Vec::new(alloc);
-    marks.resize(slots, true)?;
+    marks.resize(slots, mark)?;
     Ok(marks)
 }
 
@@ -71,7 +71,7 @@ fn node_slots<'d, Ix: IndexType, S: ReadStore<Ix>>(
 }
 
 // The mark of a node.
-fn is_marked<Ix: IndexType>(marks: &Vec<bool>, n: NodeIndex<Ix>) -> bool
+pub(crate) fn is_marked<Ix: IndexType>(marks: &Vec<bool>, n: NodeIndex<Ix>) -> bool
     requires { Ix.number n < vec_len marks.now }
     ensures { result ≡ mark_of marks.now.items (Ix.number n) }
 {
