@@ -50,7 +50,7 @@ pub type NewEdge<E, Ix> = (NodeIndex<Ix>, NodeIndex<Ix>, E);
 /// ```
 #[derive(Debug, Drop, PartialEq)]
 pub enum Command<N, E, Ix: IndexType = DefaultIx> {
-    /// Add a node of this weight.
+    /// Add a node with this weight.
     Node(N),
     /// Add an edge: its parent, its child and its weight.
     Edge(NodeIndex<Ix>, NodeIndex<Ix>, E),
@@ -130,7 +130,7 @@ pub enum Reply<N, E, Ix: IndexType = DefaultIx> {
     Missing(Back<N, E>),
     /// The index type has no index left. Nothing has changed.
     Full(Back<N, E>),
-    /// The edge of this weight would close a cycle. Nothing has changed.
+    /// The edge with this weight would close a cycle. Nothing has changed.
     Cycle(E),
     /// All these edges together would close a cycle. Nothing has changed. The weights are in
     /// reverse order.

@@ -50,7 +50,7 @@ impl<Ix, E> IntoWeightedEdge<E> for (NodeIndex<Ix>, NodeIndex<Ix>, E) {
     }
 }
 
-/// A node or an edge of a list that a graph is made from.
+/// A node or an edge in a list from which a graph is made.
 #[derive(Debug, Clone, Copy, Drop, PartialEq, Eq)]
 pub enum Element<N, E> {
     /// A node. The first one in a list is at position 0, the next at 1, and so on.

@@ -9,6 +9,7 @@ pub mod index;
 pub mod kind;
 pub mod link;
 pub mod looks;
+pub mod number;
 pub mod read_store;
 pub mod reserved;
 pub mod source;

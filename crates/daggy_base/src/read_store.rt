@@ -30,6 +30,7 @@ use crate::source::IndexedSource;
 /// let days = graph.add_edge(sow, reap, 90)?;
 /// assert!(rt; graph.contains_edge_index(days));
 /// // Along the edges that enter `reap`.
+/// graph.invariant();
 /// assert!(rt; graph.first_edge(reap, Direction::Incoming) == days);
 /// assert!(rt; graph.next_edge(days, Direction::Incoming) == EdgeIndex::end());
 /// // The slot of the edge is vacant afterwards.
