@@ -1,5 +1,5 @@
 -- The stages of reading, put together.
-use Rattle.std.proofs.Common.{◌≡◌, ℕ, zero, suc, ◌+◌, inl, inr, Option, Some, None, IsSome, List, [], ◌∷◌}
+use Rattle.std.proofs.Common.{◌≡◌, ℕ, zero, suc, ◌+◌, Option, Some, None, IsSome, List, [], ◌∷◌}
 use Rattle.std.proofs.Common.{length, map, refl, sym, ap, subst, ◌∙◌, arith}
 use Rattle.std.specs.Prelude.{MatchOption, Result, Ok, Err}
 use Rattle.std.specs.Option.{option_map}
@@ -21,7 +21,7 @@ use Rattle.daggy_json.specs.declared.error.ReadError.TheVariants.{Orders}
 use Rattle.daggy_base.specs.Orders.{with_orders, AreOrders}
 use Rattle.daggy_json.specs.Reading.{Parts, parts_in, orders_in, IsLaidOut, IsReadTo, IsFilled, IsLinked, ReadsEach}
 use Rattle.daggy_json.specs.Reading.{IsWeight, IsEntryRead, AreSlots, IsOrdered}
-use Rattle.daggy_json.specs.Found.{EndsExist, IsNodesFault}
+use Rattle.daggy_json.specs.Found.{EndsExist}
 use Rattle.daggy_json.proofs.TrimmedSlots.{slots_split}
 
 module _ {N E : Type 0} (limit : ℕ) (kind : Kind) (node_answers : Data → Option N → Type 0)
@@ -102,17 +102,6 @@ ends_exist kind nodes answers (d ∷ ds) (Some y ∷ edges) h dir zero x is =
     ])
 ends_exist kind nodes answers (d ∷ ds) (y ∷ edges) h dir (suc e) x is =
     ends_exist kind nodes answers ds edges h.1 dir e x is
-
--- a fault up to the nodes
-pub nodes_fault : {N E : Type 0} (limit : ℕ) (kind : Kind) (node_answers : Data → Option N → Type 0)
-    (edge_answers : Data → Option E → Type 0) (ends_as : Graph N E → Result (Graph N E) ReadError → Type 0) (d : Data)
-    (p : Parts)
-    → parts_in d ≡ Some p → (e : ReadError) → IsNodesFault limit kind node_answers p e
-    → IsReadTo limit kind node_answers edge_answers ends_as d (Err e)
-nodes_fault limit kind node_answers edge_answers ends_as d p is e (inl laid) =
-    layout_fault limit kind node_answers edge_answers ends_as d p is e laid
-nodes_fault limit kind node_answers edge_answers ends_as d p is e (inr h) =
-    weight_fault limit kind node_answers edge_answers ends_as d p is h.0 e h.1
 
 -- where no slot may be vacant, none is
 pub full_entries : {N E T : Type 0} (kind : Kind) (nodes : List (Option N)) (answers : Data → Option E → Type 0)

@@ -187,7 +187,7 @@ module _ {A B W V : Type 0} (weight_as : W → V → Type 0) (weight : A → W) 
 
 -- ---- the vacant places and what the others hold say it all
 
-low_first : {A : Type 0} (k i : ℕ) (ys : List (Option A)) (l : List ℕ) → vacant_from k ys ≡ i ∷ l → k ≤ i
+pub low_first : {A : Type 0} (k i : ℕ) (ys : List (Option A)) (l : List ℕ) → vacant_from k ys ≡ i ∷ l → k ≤ i
 low_first k i [] l e = absurd cc
 low_first k i (None ∷ ys) l e = let same : k ≡ i = cc in omega arith
 low_first k i (Some y ∷ ys) l e = let more = low_first (k + 1) i ys l e in omega arith

@@ -148,6 +148,21 @@ row_narrows bound = record { some = λ d x h. some_at (array_in d) x h; none = �
         (array_past (index_narrows bound) a) (array_past (index_narrows bound) b) h k
     none_at _ x h k = cc
 
+listed_at : (xs : List ℕ) (j e : ℕ) → slice_get xs j ≡ Some e → Contains xs e
+listed_at [] j e h = cc
+listed_at (x ∷ xs) zero e h = let same : x ≡ e = cc in subst (λ k. Contains (x ∷ xs) k) same (Contains-here x xs)
+listed_at (x ∷ xs) (suc j) e h = Contains-there x e xs (listed_at xs j e h)
+
+-- a row that is one only without the bound has an index past it
+pub row_past : (bound : ℕ) (d : Data) (r : List ℕ × List ℕ) → row_in bound d ≡ None → pair_in d ≡ Some r
+    → (dir : Direction) × (e : ℕ) × Contains (chosen dir r) e × (bound ≤ e)
+row_past bound d r none some =
+    let past = (row_narrows bound).none d r none some in
+    (past.0, past.1.1, listed_at (chosen past.0 r) past.1.0 past.1.1 past.1.2, past.1.3)
+
+pub row_some : (bound : ℕ) (d : Data) (r : List ℕ × List ℕ) → row_in bound d ≡ Some r → pair_in d ≡ Some r
+row_some bound d r h = (row_narrows bound).some d r h
+
 -- ---- the orders
 
 pub orders_some : (bound : ℕ) (d : Data) (rows : List (List ℕ × List ℕ))
@@ -172,11 +187,6 @@ chosen_at : (dir : Direction) (rows : List (List ℕ × List ℕ)) (j : ℕ) (p 
 chosen_at dir [] j p h = cc
 chosen_at dir (r ∷ rows) zero p h = let same : r ≡ p = cc in ap (λ k. Some (chosen dir k)) same
 chosen_at dir (r ∷ rows) (suc j) p h = chosen_at dir rows j p h
-
-listed_at : (xs : List ℕ) (j e : ℕ) → slice_get xs j ≡ Some e → Contains xs e
-listed_at [] j e h = cc
-listed_at (x ∷ xs) zero e h = let same : x ≡ e = cc in subst (λ k. Contains (x ∷ xs) k) same (Contains-here x xs)
-listed_at (x ∷ xs) (suc j) e h = Contains-there x e xs (listed_at xs j e h)
 
 -- an index past the edges is in no order
 pub orders_none : {N E : Type 0} (nodes : List (Option N)) (edges : List (Option (Edge E))) (bound : ℕ)

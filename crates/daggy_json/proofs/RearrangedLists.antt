@@ -80,14 +80,14 @@ module _ {E : Type 0} (dir : Direction) (edges : List (Option (Edge E))) where
 
   -- the list of a node
   module _ {N : Type 0} (nodes : List (Option N)) where
-    lists_at : (n : ℕ) → n < length nodes
+    pub lists_at : (n : ℕ) → n < length nodes
         → row (lists_down dir (length nodes) edges) n ≡ down_from (has_end dir edges n) (length edges)
     lists_at n low =
         unwrap_or-slice_get (lists_down dir (length nodes) edges) n []
         ∙ get_or-map-range_with_len (λ k. down_from (has_end dir edges k) (length edges)) 0 (length nodes) n n [] low
         (omega arith)
 
-    at_dir : (d : Direction) (n : ℕ)
+    pub at_dir : (d : Direction) (n : ℕ)
         → list_at d (graph_of_slots nodes edges) n ≡ row (lists_down d (length nodes) edges) n
     at_dir Outgoing n = refl
     at_dir Incoming n = refl

@@ -1,26 +1,23 @@
 -- Weights and entries that were read so far.
-use Rattle.std.proofs.Common.{◌≡◌, ℕ, suc, ◌+◌, ◌<◌, IsSome, Option, Some, None, List, [], ◌∷◌, ◌++◌, length}
-use Rattle.std.proofs.Common.{get_or, take, drop, map, sym, ap, ◌∙◌, drop-cons}
+use Rattle.std.proofs.Common.{◌≡◌, ℕ, ◌+◌, ◌<◌, ◌≤◌, IsSome, Option, Some, None, List, [], ◌∷◌, ◌++◌, length}
+use Rattle.std.proofs.Common.{get_or, take, map, sym, ap, subst, ◌∙◌, arith}
 use Rattle.std.specs.Prelude.{Result, Ok, Err}
 use Rattle.std.specs.List.{AllZip}
-use Rattle.std.proofs.lemmas.List.{map-append, take_more, take-append-drop}
+use Rattle.std.proofs.lemmas.List.{map-append, take_more, take_all, take-map, length-map, length-take-le}
+use Rattle.std.proofs.lemmas.Slice.Zip.{AllZip-long}
 use Rattle.serde_json.specs.Data.{Data}
 use Rattle.serde_json.specs.View.{view}
 use Rattle.serde_json.specs.declared.value.Value.{Value}
 use Rattle.daggy_base.specs.declared.kind.Kind.{Kind}
-use Rattle.daggy_json.specs.Reading.{ReadsEach, Ascend, triple_in, IsEntryRead}
+use Rattle.daggy_json.specs.Reading.{ReadsEach, triple_in, IsEntryRead}
 use Rattle.daggy_base.specs.Graph.{slot}
+use Rattle.daggy_base.proofs.Lists.{slice_get_mapped}
+use Rattle.daggy_json.specs.FoundFault.{StopsIn}
 use Rattle.daggy_json.specs.declared.error.ReadError.{ReadError}
 use Rattle.daggy_json.specs.declared.error.ReadError.TheVariants.{Weight}
+use Rattle.daggy_json.specs.declared.fault.Fault.{Fault}
+use Rattle.daggy_json.specs.declared.fault.Member.{Member}
 use Rattle.daggy_json.proofs.Parts.{zip_more}
-
-split_at : (vs : List Value) (i : ℕ) (v : Value)
-    → i < length vs → v ≡ get_or vs i v → map view vs ≡ map view (take i vs) ++ view v ∷ map view (drop (suc i) vs)
-split_at vs i v low is =
-    let whole : vs ≡ take i vs ++ v ∷ drop (suc i) vs =
-    sym (take-append-drop i vs)
-    ∙ ap (λ k. take i vs ++ k) (drop-cons vs i v low ∙ ap (λ k. k ∷ drop (suc i) vs) (sym is)) in
-    ap (map view) whole ∙ map-append view (take i vs) (v ∷ drop (suc i) vs)
 
 module _ {A : Type 0} (reads : Data → Result A ReadError → Type 0) where
   -- the first i were read as xs
@@ -36,17 +33,30 @@ module _ {A : Type 0} (reads : Data → Result A ReadError → Type 0) where
         ∙ map-append view (take i vs) (v ∷ []) in
         record { each = rw (e, more) (zip_more (λ d x. reads d (Ok x)) _ xs (view v) x s.each gives) }
 
-    pub each_fault : (v : Value) (e : ReadError)
-        → i < length vs → v ≡ get_or vs i v → reads (view v) (Err e) → ReadsEach reads (map view vs) (Err e)
-    each_fault v e low is gives =
-        (map view (take i vs), view v, map view (drop (suc i) vs), xs, split_at vs i v low is, s.each, gives)
+    counted : i < length vs → length xs ≡ i
+    counted low =
+        AllZip-long _ _ _ s.each ∙ (length-map (take i vs) view ∙ length-take-le i vs (omega arith))
 
--- ---- holes
+    -- the next one is not read
+    pub each_stops : (v : Value) (member : Member) (f : Fault) (e : ReadError)
+        → i < length vs → v ≡ get_or vs i v → reads (view v) (Err e) → f.error ≡ e → f.place.member ≡ member
+        → (n : ℕ) → f.place.entry ≡ Some n → n ≡ length xs → StopsIn reads (map view vs) member f
+    each_stops v member f e low is gives same of n at long = (
+      i,
+      of,
+      at ∙ ap Some (long ∙ counted low),
+      record {
+        entry = view v;
+        at = slice_get_mapped view vs i v low is;
+        fault = subst (λ z. reads (view v) (Err z)) (sym same) gives;
+        before = xs;
+        earlier = rw (take-map view i vs) s.each;
+      },
+    )
 
--- the first i ascend, and the others are to begin at low
-pub record AscendSoFar (high : ℕ) (hs : List ℕ) (i low : ℕ) : Type 0 where
-  pub forth : Ascend 0 high hs → Ascend low high (drop i hs)
-  pub back : Ascend low high (drop i hs) → Ascend 0 high hs
+    -- all were read
+    pub each_all : length vs ≤ i → ReadsEach reads (map view vs) (Ok xs)
+    each_all past = rw (take_all i vs past) at s.each
 
 -- ---- entries
 

@@ -1,5 +1,5 @@
 -- What the stages of reading find.
-use Rattle.std.specs.Prelude.{◌≡◌, ◌⊎◌, Ok, Err, ℕ, ◌+◌, Bool, true, false, IsSome, length, slice_index_or, slice_set}
+use Rattle.std.specs.Prelude.{◌≡◌, Ok, ℕ, ◌+◌, Bool, true, false, IsSome, length, slice_index_or, slice_set}
 use Rattle.std.specs.Prelude.{replicate, nat_lt, if◌then◌else◌, Option, Some, None, option_and_then, List, [], ◌∷◌, map}
 use Rattle.std.specs.Option.{option_map}
 use Rattle.std.specs.Borrow.{Bor}
@@ -15,7 +15,6 @@ use Rattle.daggy_base.specs.declared.kind.Kind.{Kind}
 pub use Rattle.daggy_base.specs.FromSlots.{edge_of}
 use Rattle.daggy_base.specs.Orders.{with_orders, numbers_of}
 use Rattle.daggy_json.specs.Reading.{Parts, whole_in, array_in, all_in, IsLaidOut, ReadsEach, IsWeight, AreSlots}
-use Rattle.daggy_json.specs.declared.error.ReadError.{ReadError}
 
 -- the orders by their numbers
 abbrev pub orders_by : {I : Type 0} → (number : I → ℕ) → Option (Vec (Vec I × Vec I)) → Option (List (List ℕ × List ℕ))
@@ -116,10 +115,3 @@ abbrev pub AreNodesRead : {N : Type 0}
 AreNodesRead {N} limit kind answers p nodes =
     IsLaidOut limit kind p None
     × ((weights : List N) × ReadsEach (IsWeight answers) p.nodes (Ok weights) × AreSlots nodes p.holes weights)
-
--- the first fault up to that point
-abbrev pub IsNodesFault : {N : Type 0}
-    → (limit : ℕ) (kind : Kind) (answers : Data → Option N → Type 0) → Parts → ReadError → Type 0
-IsNodesFault {N} limit kind answers p e =
-    IsLaidOut limit kind p (Some e)
-    ⊎ (IsLaidOut limit kind p None × ReadsEach {A = N} (IsWeight answers) p.nodes (Err e))

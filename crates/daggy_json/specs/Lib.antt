@@ -5,3 +5,5 @@ pub mod Found
 pub mod Restoring
 pub mod Streaming
 pub mod Passing
+pub mod Fault
+pub mod FoundFault

@@ -47,6 +47,7 @@ pub enum StreamError {
 
 /// Reading a document failed. The error is the first fault, in the order of the variants; edge
 /// entries are checked one by one, each for its shape, its endpoints and its weight.
+/// [`find_fault`](crate::finding::find_fault) returns the place of the fault.
 ///
 /// # Examples
 ///
@@ -60,14 +61,14 @@ pub enum StreamError {
 #[derive(Clone, Copy, Debug, Drop, Eq, Error, PartialEq)]
 pub enum ReadError {
     /// A value or a member has the wrong type. The value must be an object, `nodes` and `edges`
-    /// arrays, `edge_property` a text, `node_holes` an array of whole numbers, and each entry of
+    /// arrays, `edge_property` a string, `node_holes` an array of whole numbers, and each entry of
     /// `edges` an array of two whole numbers and a weight, or `null` for a vacant slot.
     #[error("wrong shape")]
     Shape,
     /// `edge_property` is not `directed`.
     #[error("not directed")]
     Property,
-    /// The holes do not ascend, or one is too large. A compact dag has no holes.
+    /// The entries of `node_holes` do not ascend, or one is too large. A compact dag has no holes.
     #[error("wrong holes")]
     Holes,
     /// The index type has too few indices.

@@ -6,6 +6,8 @@ mod block;
 mod descending;
 pub mod documents;
 pub mod error;
+pub mod fault;
+pub mod finding;
 mod making;
 pub mod reading;
 mod streaming;

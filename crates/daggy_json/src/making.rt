@@ -107,7 +107,10 @@ pub(crate) fn read_graph<
         (λ e. (e ≡ Memory) ⊎ IsGraphRead {N = N} {E = E} Ix.greatest S.KIND
         (ReadsAs F.Fn fn_node.now) (ReadsAs G.Fn fn_edge.now) (view value.now) (Err e)) }
 {
-    Ok(make_graph(alloc, gather(alloc, value, S::KIND, fn_node, fn_edge)?)?)
+    match gather(alloc, value, S::KIND, fn_node, fn_edge) {
+        Ok(found) => Ok(make_graph(alloc, found)?),
+        Err(fault) => Err(fault.error),
+    }
 }
 
 // The dag that the value is read as.
@@ -128,5 +131,9 @@ pub(crate) fn read<
         (λ e. (e ≡ Memory) ⊎ IsRead {N = N} {E = E} Ix.greatest S.KIND (ReadsAs F.Fn fn_node.now)
         (ReadsAs G.Fn fn_edge.now) (view value.now) (Err e)) }
 {
-    make(alloc, gather(alloc, value, S::KIND, fn_node, fn_edge)?)
+    let found = match gather(alloc, value, S::KIND, fn_node, fn_edge) {
+        Ok(found) => found,
+        Err(fault) => return Err(fault.error),
+    };
+    make(alloc, found)
 }

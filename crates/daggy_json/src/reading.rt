@@ -5,4 +5,5 @@ mod layout;
 mod orders;
 mod parts;
 mod rearranged;
+mod rows;
 mod weights;

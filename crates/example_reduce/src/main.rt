@@ -4,13 +4,14 @@
 //! whose ends a longer path joins, and writes the document of the reduced dag.
 #![tactic(auto)]
 
-mod cycle;
 mod document;
+mod refused;
 
-use crate::cycle::or_cycle;
 use crate::document::{read, read_stable, write_reduced};
+use crate::refused::or_fault;
 use anyhow::{Context, Result};
 use clap::{Arg, ArgAction, Command};
+use daggy::run::Kind;
 use serde_json::Value;
 use std::alloc::{AllocError, Global};
 use std::io::{BufWriter, Read, Write};
@@ -20,7 +21,8 @@ use std::{env, fs, io};
 
 static DETAILS: &str = "\
 The document is an object with the members `nodes`, `node_holes`, `edges`, `edge_property` and, if \
-the lists of the nodes are to be restored, `orders`. Weights may be any JSON values.
+the lists of the nodes are to be restored, `orders`. Weights may be any JSON values. If it holds no \
+dag, the error names a cycle, or the first wrong member or entry, as `edges[17]`.
 
 Exit status: 0 if the reduced dag was written, 2 if the arguments are wrong, and 1 if the input cannot \
 be read, holds no dag, or anything else fails.";
@@ -55,10 +57,10 @@ fn reduce(rt: &(impl Print + AllocGlobal), bytes: &[u8], stable: bool) -> Result
     let alloc = rt.alloc();
     if stable {
         let read = read_stable(alloc, &document);
-        write_reduced(or_cycle(alloc, &document, read)?, &mut out)?;
+        write_reduced(or_fault(alloc, &document, Kind::Stable, read)?, &mut out)?;
     } else {
         let read = read(alloc, &document);
-        write_reduced(or_cycle(alloc, &document, read)?, &mut out)?;
+        write_reduced(or_fault(alloc, &document, Kind::Compact, read)?, &mut out)?;
     }
     writeln!(out)?;
     out.flush()?;

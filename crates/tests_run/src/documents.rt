@@ -1,5 +1,6 @@
 //! Dags as documents.
 
+mod faults;
 mod random;
 mod reading;
 mod scenes;

@@ -7,10 +7,13 @@ ghost use Rattle.daggy_base.specs.Graph.{slot};
 ghost use Rattle.daggy_base.specs.FromSlots.{edges_by};
 ghost use Rattle.daggy_json.specs.Reading.{ReadsEach, IsEntryRead, triple_in};
 ghost use Rattle.daggy_json.specs.Found.{edge_of};
+ghost use Rattle.daggy_json.specs.FoundFault.{StopsIn};
 ghost use Rattle.daggy_json.specs.Weight.{ReadsAs};
 ghost use Rattle.daggy_json.specs.declared.error.ReadError.TheVariants.{Memory};
+ghost use Rattle.daggy_json.specs.declared.fault.Member.TheVariants.{Edges};
 
 use crate::error::ReadError;
+use crate::fault::{Fault, Member};
 use daggy_base::index::{IndexType, NodeIndex};
 use daggy_base::kind::Kind;
 use serde_json::Value;
@@ -80,20 +83,23 @@ pub(super) fn read_entries<
     kind: Kind,
     nodes: &Vec<Option<N>>,
     fn_edge: &G,
-) -> Result<Vec<Option<(NodeIndex<Ix>, NodeIndex<Ix>, E)>>, ReadError>
+) -> Result<Vec<Option<(NodeIndex<Ix>, NodeIndex<Ix>, E)>>, Fault>
     requires callable { G.IsAlwaysCallable fn_edge.now }
     requires few { vec_len nodes.now ≤ Ix.greatest }
     ensures ok { IfOk result
         (λ v. ReadsEach (IsEntryRead kind nodes.now.items (ReadsAs G.Fn fn_edge.now))
         (map view list.now.items) (Ok (edges_by Ix.number v.items))) }
-    ensures err { IfErr result (λ e. (e ≡ Memory)
-        ⊎ ReadsEach (IsEntryRead kind nodes.now.items (ReadsAs G.Fn fn_edge.now))
-        (map view list.now.items) (Err e)) }
+    ensures err { IfErr result (λ f. (f.error ≡ Memory)
+        ⊎ StopsIn (IsEntryRead kind nodes.now.items (ReadsAs G.Fn fn_edge.now))
+        (map view list.now.items) Edges f) }
 {
     let mut edges = Vec::new(alloc);
     edges.reserve(list.len())?;
     for value in list {
-        edges.push(read_entry(value, kind, nodes, fn_edge)?)?;
+        match read_entry(value, kind, nodes, fn_edge) {
+            Ok(edge) => edges.push(edge)?,
+            Err(error) => return Err(Fault::at(error, Member::Edges, edges.len())),
+        }
     }
     Ok(edges)
 }

@@ -10,17 +10,19 @@ ghost use Rattle.daggy_base.specs.declared.kind.Kind.TheVariants.{Compact};
 ghost use Rattle.daggy_json.specs.Document.{vacant_from};
 ghost use Rattle.daggy_json.specs.Reading.{IsOrdered, IsGraphRead, IsRead, IsTested};
 ghost use Rattle.daggy_json.specs.Found.{ordered, orders_by, EndsExist, parts_of, AreNodesRead};
-ghost use Rattle.daggy_json.specs.Found.{IsNodesFault};
+ghost use Rattle.daggy_json.specs.FoundFault.{IsNodesFault, AreWrongOrders};
+ghost use Rattle.daggy_json.specs.Fault.{IsFaultAt};
 ghost use Rattle.daggy_json.specs.Weight.{ReadsAs};
 ghost use Rattle.daggy_json.specs.declared.error.ReadError.TheVariants.{Memory};
 ghost use Rattle.daggy_json.specs.declared.error.ReadError.{ReadError};
 
-use crate::error::ReadError;
+use crate::fault::Fault;
 use crate::reading::entries::read_entries;
 use crate::reading::layout::check_layout;
 use crate::reading::orders::{Row, read_rows};
 use crate::reading::parts::{Parts, read_parts};
 use crate::reading::rearranged::{Slot, are_orders};
+use crate::reading::rows::wrong_orders;
 use crate::reading::weights::{place_weights, read_weights};
 use daggy_base::index::IndexType;
 use daggy_base::kind::Kind;
@@ -33,7 +35,7 @@ fn read_orders<N, E, Ix: IndexType>(
     orders: Option<&Value>,
     nodes: &Vec<Option<N>>,
     edges: &Vec<Slot<E, Ix>>,
-) -> Result<Option<Vec<Row<Ix>>>, ReadError>
+) -> Result<Option<Vec<Row<Ix>>>, Fault>
     requires ends { EndsExist nodes.now.items (edges_by Ix.number edges.now.items) }
     requires few { vec_len edges.now ≤ Ix.greatest }
     ensures ok { IfOk result
@@ -44,18 +46,18 @@ fn read_orders<N, E, Ix: IndexType>(
     ensures orders { IfOk result (λ o. IfSome o (λ v.
         AreOrders (graph_of_slots nodes.now.items (edges_by Ix.number edges.now.items))
         (map (numbers_of Ix.number) v.items))) }
-    ensures err { IfErr result (λ e. (e ≡ Memory)
-        ⊎ IsOrdered (graph_of_slots nodes.now.items (edges_by Ix.number edges.now.items))
-        (option_map (λ d. view d.now) orders.entry) (Err e)) }
+    ensures err { IfErr result (λ f. (f.error ≡ Memory)
+        ⊎ AreWrongOrders (graph_of_slots nodes.now.items (edges_by Ix.number edges.now.items))
+        (option_map (λ d. view d.now) orders.entry) f) }
 {
     let Some(value) = orders else {
         return Ok(None);
     };
     let Some(rows) = read_rows(alloc, value, edges.len())? else {
-        return Err(ReadError::Orders);
+        return Err(wrong_orders(alloc, value, nodes, edges)?);
     };
     if !are_orders(alloc, nodes, edges, &rows)? {
-        return Err(ReadError::Orders);
+        return Err(wrong_orders(alloc, value, nodes, edges)?);
     }
     Ok(Some(rows))
 }
@@ -77,23 +79,23 @@ fn gather_nodes<N: Drop, Ix: IndexType, F: Fn(&Value) -> Result<Option<N>, Alloc
     parts: &Parts,
     kind: Kind,
     fn_node: &F,
-) -> Result<Vec<Option<N>>, ReadError>
+) -> Result<Vec<Option<N>>, Fault>
     requires { F.IsAlwaysCallable fn_node.now }
     ensures ok { IfOk result (λ v. AreNodesRead Ix.greatest kind (ReadsAs F.Fn fn_node.now)
         (parts_of parts.now.nodes.now.items parts.now.holes.items parts.now.property.now
         parts.now.edges.now.items parts.now.orders) v.items) }
     ensures err { IfErr result
-        (λ e. (e ≡ Memory) ⊎ IsNodesFault Ix.greatest kind (ReadsAs F.Fn fn_node.now)
+        (λ f. (f.error ≡ Memory) ⊎ IsNodesFault Ix.greatest kind (ReadsAs F.Fn fn_node.now)
         (parts_of parts.now.nodes.now.items parts.now.holes.items parts.now.property.now
-        parts.now.edges.now.items parts.now.orders) e) }
+        parts.now.edges.now.items parts.now.orders) f) }
 {
     check_layout::<Ix>(kind, parts)?;
     let weights = read_weights(alloc, parts.nodes, fn_node)?;
     Ok(place_weights(alloc, weights, &parts.holes)?)
 }
 
-/// Reads the slots and the orders of a document, or returns its first fault. Does not check for
-/// cycles. Slots may be vacant in the stable kind.
+/// Reads the slots and the orders of a document, or returns its first fault and its place. Does not
+/// check for cycles. Slots may be vacant in the stable kind.
 pub fn gather<
     N: Drop,
     E: Drop,
@@ -106,7 +108,7 @@ pub fn gather<
     kind: Kind,
     fn_node: &F,
     fn_edge: &G,
-) -> Result<Gathered<N, E, Ix>, ReadError>
+) -> Result<Gathered<N, E, Ix>, Fault>
     requires nodes { F.IsAlwaysCallable fn_node.now }
     requires edges { G.IsAlwaysCallable fn_edge.now }
     ensures ok { IfOk result (λ s. (r : Result (Graph N E) ReadError)
@@ -126,12 +128,9 @@ pub fn gather<
     ensures orders { IfOk result (λ s. IfSome s.orders (λ v.
         AreOrders (graph_of_slots s.nodes.items (edges_by Ix.number s.edges.items))
         (map (numbers_of Ix.number) v.items))) }
-    ensures err { IfErr result
-        (λ e. (e ≡ Memory) ⊎ IsRead {N = N} {E = E} Ix.greatest kind (ReadsAs F.Fn fn_node.now)
-        (ReadsAs G.Fn fn_edge.now) (view value.now) (Err e)) }
-    ensures graph_err { IfErr result
-        (λ e. (e ≡ Memory) ⊎ IsGraphRead {N = N} {E = E} Ix.greatest kind
-        (ReadsAs F.Fn fn_node.now) (ReadsAs G.Fn fn_edge.now) (view value.now) (Err e)) }
+    ensures fault { IfErr result (λ f. (f.error ≡ Memory)
+        ⊎ IsFaultAt {N = N} {E = E} Ix.greatest kind (ReadsAs F.Fn fn_node.now)
+        (ReadsAs G.Fn fn_edge.now) (view value.now) f.error f.place.member f.place.entry) }
 {
     let parts = read_parts(alloc, value)?;
     let nodes = gather_nodes::<N, Ix, F>(alloc, &parts, kind, fn_node)?;

@@ -50,7 +50,7 @@ fn read_list<Ix: IndexType>(
 }
 
 // The two lists of a node, if there are two.
-fn read_row<Ix: IndexType>(
+pub(super) fn read_row<Ix: IndexType>(
     alloc: Global,
     value: &Value,
     bound: usize,

@@ -6,11 +6,15 @@ ghost use Rattle.serde_json.specs.Find.{get};
 ghost use Rattle.daggy_json.specs.Reading.{array_at, all_in, whole_in, numbers_in, holes_in};
 ghost use Rattle.daggy_json.specs.Reading.{parts_in};
 ghost use Rattle.daggy_json.specs.Found.{parts_of};
+ghost use Rattle.daggy_json.specs.FoundFault.{StopsIn};
+ghost use Rattle.daggy_json.specs.Fault.{IsWhole, HasWrongHoles, IsShapeFault};
 ghost use Rattle.daggy_json.specs.declared.error.ReadError.TheVariants.{Shape, Memory};
+ghost use Rattle.daggy_json.specs.declared.fault.Member.TheVariants.{NodeHoles};
 
 use crate::error::ReadError;
+use crate::fault::{Fault, Member};
 use serde_json::Value;
-use std::alloc::{AllocError, Global};
+use std::alloc::Global;
 
 // The parts of a document, borrowed from its value.
 #[derive(Drop)]
@@ -28,56 +32,60 @@ fn find_array<'v>(value: &'v Value, key: &str) -> Option<&'v Vec<Value>>
     value.get(key)?.as_array()
 }
 
-// Whole numbers, if each value is one.
-fn read_numbers(alloc: Global, list: &Vec<Value>) -> Result<Option<Vec<usize>>, AllocError>
-    ensures { IfOk result (λ o.
-        option_map (λ v. v.items) o ≡ all_in whole_in (map view list.now.items)) }
+// The holes, if each value is a whole number.
+fn read_numbers(alloc: Global, list: &Vec<Value>) -> Result<Vec<usize>, Fault>
+    ensures ok { IfOk result (λ v. all_in whole_in (map view list.now.items) ≡ Some v.items) }
+    ensures err { IfErr result (λ f. (f.error ≡ Memory)
+        ⊎ StopsIn IsWhole (map view list.now.items) NodeHoles f) }
 {
     let mut numbers = Vec::new(alloc);
     numbers.reserve(list.len())?;
     for value in list {
         let Some(n) = value.as_u64() else {
-            return Ok(None);
+            return Err(Fault::at(ReadError::Shape, Member::NodeHoles, numbers.len()));
         };
         numbers.push(n as usize)?;
     }
-    Ok(Some(numbers))
+    Ok(numbers)
 }
 
 // The vacant slots of nodes. None without the key.
-fn read_holes(alloc: Global, value: &Value) -> Result<Option<Vec<usize>>, AllocError>
-    ensures { IfOk result (λ o.
-        option_map (λ v. v.items) o ≡ holes_in (get (codes "node_holes") (view value.now))) }
+fn read_holes(alloc: Global, value: &Value) -> Result<Vec<usize>, Fault>
+    ensures ok { IfOk result (λ v.
+        holes_in (get (codes "node_holes") (view value.now)) ≡ Some v.items) }
+    ensures err { IfErr result (λ f. (f.error ≡ Memory) ⊎ (f.error ≡ Shape)
+        × (f.place.member ≡ NodeHoles) × HasWrongHoles (view value.now) f.place.entry) }
 {
     let Some(holes) = value.get("node_holes") else {
-        return Ok(Some(Vec::new(alloc)));
+        return Ok(Vec::new(alloc));
     };
     let Some(list) = holes.as_array() else {
-        return Ok(None);
+        return Err(Fault::of(ReadError::Shape, Member::NodeHoles));
     };
     read_numbers(alloc, list)
 }
 
 // The parts of the document.
-pub(super) fn read_parts<'v>(alloc: Global, value: &'v Value) -> Result<Parts<'v>, ReadError>
+pub(super) fn read_parts<'v>(alloc: Global, value: &'v Value) -> Result<Parts<'v>, Fault>
     ensures ok { IfOk result (λ p. parts_in (view value.now)
         ≡ Some
         (parts_of p.nodes.now.items p.holes.items p.property.now p.edges.now.items p.orders)) }
-    ensures err { IfErr result (λ e.
-        (e ≡ Memory) ⊎ ((e ≡ Shape) × (parts_in (view value.now) ≡ None))) }
+    ensures err { IfErr result (λ f. (f.error ≡ Memory) ⊎ (f.error ≡ Shape)
+        × IsShapeFault (view value.now) f.place.member f.place.entry) }
 {
+    if !value.is_object() {
+        return Err(Fault::of(ReadError::Shape, Member::Document));
+    }
     let Some(nodes) = find_array(value, "nodes") else {
-        return Err(ReadError::Shape);
+        return Err(Fault::of(ReadError::Shape, Member::Nodes));
     };
     let Some(property) = value.get("edge_property").and_then(Value::as_str) else {
-        return Err(ReadError::Shape);
+        return Err(Fault::of(ReadError::Shape, Member::EdgeProperty));
     };
     let Some(edges) = find_array(value, "edges") else {
-        return Err(ReadError::Shape);
+        return Err(Fault::of(ReadError::Shape, Member::Edges));
     };
-    let Some(holes) = read_holes(alloc, value)? else {
-        return Err(ReadError::Shape);
-    };
+    let holes = read_holes(alloc, value)?;
     Ok(Parts {
         nodes,
         holes,

@@ -52,7 +52,7 @@ fn unmark(marks: &mut [bool])
 }
 
 // Marks the edges of a list. False if one of them is not at the node, or was marked before.
-fn mark_list<E, Ix: IndexType>(
+pub(super) fn mark_list<E, Ix: IndexType>(
     edges: &Vec<Slot<E, Ix>>,
     list: &Vec<EdgeIndex<Ix>>,
     n: usize,

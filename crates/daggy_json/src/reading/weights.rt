@@ -3,10 +3,13 @@ ghost use Rattle.std.specs.Prelude.{◌≡◌, ◌+◌, ◌^◌, ◌<◌, ◌⊎
 ghost use Rattle.std.specs.Prelude.{IfErr};
 ghost use Rattle.serde_json.specs.View.{view};
 ghost use Rattle.daggy_json.specs.Reading.{Ascend, AreSlots, ReadsEach, IsWeight};
+ghost use Rattle.daggy_json.specs.FoundFault.{StopsIn};
 ghost use Rattle.daggy_json.specs.Weight.{ReadsAs};
 ghost use Rattle.daggy_json.specs.declared.error.ReadError.TheVariants.{Memory};
+ghost use Rattle.daggy_json.specs.declared.fault.Member.TheVariants.{Nodes};
 
 use crate::error::ReadError;
+use crate::fault::{Fault, Member};
 use serde_json::Value;
 use std::alloc::{AllocError, Global};
 
@@ -32,18 +35,21 @@ pub(super) fn read_weights<N: Drop, F: Fn(&Value) -> Result<Option<N>, AllocErro
     alloc: Global,
     list: &Vec<Value>,
     fn_node: &F,
-) -> Result<Vec<N>, ReadError>
+) -> Result<Vec<N>, Fault>
     requires { F.IsAlwaysCallable fn_node.now }
     ensures ok { IfOk result
         (λ v. ReadsEach (IsWeight (ReadsAs F.Fn fn_node.now)) (map view list.now.items)
         (Ok v.items)) }
-    ensures err { IfErr result (λ e. (e ≡ Memory)
-        ⊎ ReadsEach (IsWeight (ReadsAs F.Fn fn_node.now)) (map view list.now.items) (Err e)) }
+    ensures err { IfErr result (λ f. (f.error ≡ Memory)
+        ⊎ StopsIn (IsWeight (ReadsAs F.Fn fn_node.now)) (map view list.now.items) Nodes f) }
 {
     let mut weights = Vec::new(alloc);
     weights.reserve(list.len())?;
     for value in list {
-        weights.push(read_weight(value, fn_node)?)?;
+        match read_weight(value, fn_node) {
+            Ok(weight) => weights.push(weight)?,
+            Err(error) => return Err(Fault::at(error, Member::Nodes, weights.len())),
+        }
     }
     Ok(weights)
 }

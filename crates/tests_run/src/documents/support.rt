@@ -236,7 +236,7 @@ pub fn weight(value: &Value) -> Result<Option<u64>, AllocError>
     Ok(value.as_u64())
 }
 
-fn starve(_value: &Value) -> Result<Option<u64>, AllocError> {
+pub fn starve(_value: &Value) -> Result<Option<u64>, AllocError> {
     Err(AllocError)
 }
 

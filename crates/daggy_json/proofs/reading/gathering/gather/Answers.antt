@@ -7,64 +7,17 @@ use Rattle.serde_json.specs.View.{view}
 use Rattle.daggy_json.specs.Found.{edge_of}
 use Rattle.daggy_json.specs.Reading.{IsItself, IsTested}
 use Rattle.daggy_json.specs.Weight.{ReadsAs}
-use Rattle.daggy_json.proofs.ComposedStages.{nodes_fault, entry_fault, orders_fault, is_read, placed_long}
+use Rattle.daggy_json.proofs.ComposedStages.{is_read, placed_long}
+use Rattle.daggy_json.proofs.FaultPlaces.{shape_placed, nodes_placed, entry_placed, orders_placed}
 use Rattle.daggy_json.proofs.ComposedStages.{ends_exist}
 use Rattle.daggy_json.proofs.ComposedStages.{full_entries}
 use Rattle.daggy_json.proofs.reading.gathering.gather.Goals as goal
-
-pub returns-in_err-nodes-clause-err : goal.returns-in_err-nodes-clause-err
-returns-in_err-nodes-clause-err g c =
-    let p = err_from_is_err_and c.from_residual-in_err-nodes.result c.from_residual-in_err-nodes.ensures.1 in
-    rw (p.1, p.2)
-    elim c.in_err-nodes.ensures.err [
-      | inl h ↦ inl h
-      | inr h ↦
-          inr (nodes_fault g.Ix.IndexType.greatest c.args.kind (ReadsAs g.F.Fn c.args.fn_node.now)
-          (ReadsAs g.G.Fn c.args.fn_edge.now) IsTested (view c.args.value.now) _ c.in_ok-parts.ensures.ok _ h)
-    ]
-
-pub returns-in_err-nodes-clause-graph_err : goal.returns-in_err-nodes-clause-graph_err
-returns-in_err-nodes-clause-graph_err g c =
-    let p = err_from_is_err_and c.from_residual-in_err-nodes.result c.from_residual-in_err-nodes.ensures.1 in
-    rw (p.1, p.2)
-    elim c.in_err-nodes.ensures.err [
-      | inl h ↦ inl h
-      | inr h ↦
-          inr (nodes_fault g.Ix.IndexType.greatest c.args.kind (ReadsAs g.F.Fn c.args.fn_node.now)
-          (ReadsAs g.G.Fn c.args.fn_edge.now) IsItself (view c.args.value.now) _ c.in_ok-parts.ensures.ok _ h)
-    ]
 
 pub read_entries-requires-clause-few : goal.read_entries-requires-clause-few
 read_entries-requires-clause-few g c =
     let n = c.in_ok-nodes.ensures.ok in
     let size : vec_len c.in_ok-nodes.nodes ≡ length c.in_ok-nodes.nodes.items = search rules in
     omega (arith, size, placed_long _ _ _ n.1.2, AllZip-long _ _ _ n.1.1, n.0.2.nodes)
-
-pub returns-in_err-edges-clause-err : goal.returns-in_err-edges-clause-err
-returns-in_err-edges-clause-err g c =
-    let n = c.in_ok-nodes.ensures.ok in
-    let p = err_from_is_err_and c.from_residual-in_err-edges.result c.from_residual-in_err-edges.ensures.1 in
-    rw (p.1, p.2)
-    elim c.in_err-edges.ensures.err [
-      | inl h ↦ inl h
-      | inr h ↦
-          inr (entry_fault g.Ix.IndexType.greatest c.args.kind (ReadsAs g.F.Fn c.args.fn_node.now)
-          (ReadsAs g.G.Fn c.args.fn_edge.now) IsTested (view c.args.value.now) _ c.in_ok-parts.ensures.ok n.0 n.1.0 n.1.1
-          n.1.2 _ h)
-    ]
-
-pub returns-in_err-edges-clause-graph_err : goal.returns-in_err-edges-clause-graph_err
-returns-in_err-edges-clause-graph_err g c =
-    let n = c.in_ok-nodes.ensures.ok in
-    let p = err_from_is_err_and c.from_residual-in_err-edges.result c.from_residual-in_err-edges.ensures.1 in
-    rw (p.1, p.2)
-    elim c.in_err-edges.ensures.err [
-      | inl h ↦ inl h
-      | inr h ↦
-          inr (entry_fault g.Ix.IndexType.greatest c.args.kind (ReadsAs g.F.Fn c.args.fn_node.now)
-          (ReadsAs g.G.Fn c.args.fn_edge.now) IsItself (view c.args.value.now) _ c.in_ok-parts.ensures.ok n.0 n.1.0 n.1.1
-          n.1.2 _ h)
-    ]
 
 pub read_orders-requires-clause-ends : goal.read_orders-requires-clause-ends
 read_orders-requires-clause-ends g c =
@@ -97,32 +50,6 @@ returns-clause-graph g c =
     (ReadsAs g.G.Fn c.args.fn_edge.now) IsItself (view c.args.value.now) _ c.in_ok-parts.ensures.ok n.0 n.1.0 n.1.1
     n.1.2 _ c.in_ok-edges.ensures.ok _ c.in_ok-orders.ensures.ok _ refl
 
-pub returns-in_err-orders-clause-err : goal.returns-in_err-orders-clause-err
-returns-in_err-orders-clause-err g c =
-    let n = c.in_ok-nodes.ensures.ok in
-    let p = err_from_is_err_and c.from_residual-in_err-orders.result c.from_residual-in_err-orders.ensures.1 in
-    rw (p.1, p.2)
-    elim c.in_err-orders.ensures.err [
-      | inl h ↦ inl h
-      | inr h ↦
-          inr (orders_fault g.Ix.IndexType.greatest c.args.kind (ReadsAs g.F.Fn c.args.fn_node.now)
-          (ReadsAs g.G.Fn c.args.fn_edge.now) IsTested (view c.args.value.now) _ c.in_ok-parts.ensures.ok n.0 n.1.0 n.1.1 n.1.2
-          _ c.in_ok-edges.ensures.ok _ h)
-    ]
-
-pub returns-in_err-orders-clause-graph_err : goal.returns-in_err-orders-clause-graph_err
-returns-in_err-orders-clause-graph_err g c =
-    let n = c.in_ok-nodes.ensures.ok in
-    let p = err_from_is_err_and c.from_residual-in_err-orders.result c.from_residual-in_err-orders.ensures.1 in
-    rw (p.1, p.2)
-    elim c.in_err-orders.ensures.err [
-      | inl h ↦ inl h
-      | inr h ↦
-          inr (orders_fault g.Ix.IndexType.greatest c.args.kind (ReadsAs g.F.Fn c.args.fn_node.now)
-          (ReadsAs g.G.Fn c.args.fn_edge.now) IsItself (view c.args.value.now) _ c.in_ok-parts.ensures.ok n.0 n.1.0 n.1.1 n.1.2
-          _ c.in_ok-edges.ensures.ok _ h)
-    ]
-
 pub returns-clause-few_nodes : goal.returns-clause-few_nodes
 returns-clause-few_nodes g c =
     let n = c.in_ok-nodes.ensures.ok in
@@ -152,3 +79,50 @@ returns-clause-full_edges g c =
     λ compact.
     full_entries c.args.kind c.in_ok-nodes.nodes.items (ReadsAs g.G.Fn c.args.fn_edge.now)
     (edge_of g.Ix.IndexType.number) compact 0 _ c.in_ok-edges.edges.items c.in_ok-edges.ensures.ok
+
+pub returns-in_err-parts-clause-fault : goal.returns-in_err-parts-clause-fault
+returns-in_err-parts-clause-fault g c =
+    let p = err_from_is_err_and c.from_residual.result c.from_residual.ensures.1 in
+    rw (p.1, p.2)
+    elim c.in_err-parts.ensures.err [
+      | inl h ↦ inl h
+      | inr h ↦
+          inr (shape_placed g.Ix.IndexType.greatest c.args.kind (ReadsAs g.F.Fn c.args.fn_node.now)
+          (ReadsAs g.G.Fn c.args.fn_edge.now) (view c.args.value.now) _ h.0 h.1)
+    ]
+
+pub returns-in_err-nodes-clause-fault : goal.returns-in_err-nodes-clause-fault
+returns-in_err-nodes-clause-fault g c =
+    let p = err_from_is_err_and c.from_residual-in_err-nodes.result c.from_residual-in_err-nodes.ensures.1 in
+    rw (p.1, p.2)
+    elim c.in_err-nodes.ensures.err [
+      | inl h ↦ inl h
+      | inr h ↦
+          inr (nodes_placed g.Ix.IndexType.greatest c.args.kind (ReadsAs g.F.Fn c.args.fn_node.now)
+          (ReadsAs g.G.Fn c.args.fn_edge.now) (view c.args.value.now) _ c.in_ok-parts.ensures.ok _ h)
+    ]
+
+pub returns-in_err-edges-clause-fault : goal.returns-in_err-edges-clause-fault
+returns-in_err-edges-clause-fault g c =
+    let n = c.in_ok-nodes.ensures.ok in
+    let p = err_from_is_err_and c.from_residual-in_err-edges.result c.from_residual-in_err-edges.ensures.1 in
+    rw (p.1, p.2)
+    elim c.in_err-edges.ensures.err [
+      | inl h ↦ inl h
+      | inr h ↦
+          inr (entry_placed g.Ix.IndexType.greatest c.args.kind (ReadsAs g.F.Fn c.args.fn_node.now)
+          (ReadsAs g.G.Fn c.args.fn_edge.now) (view c.args.value.now) _ c.in_ok-parts.ensures.ok _ n _ h)
+    ]
+
+pub returns-in_err-orders-clause-fault : goal.returns-in_err-orders-clause-fault
+returns-in_err-orders-clause-fault g c =
+    let n = c.in_ok-nodes.ensures.ok in
+    let p = err_from_is_err_and c.from_residual-in_err-orders.result c.from_residual-in_err-orders.ensures.1 in
+    rw (p.1, p.2)
+    elim c.in_err-orders.ensures.err [
+      | inl h ↦ inl h
+      | inr h ↦
+          inr (orders_placed g.Ix.IndexType.greatest c.args.kind (ReadsAs g.F.Fn c.args.fn_node.now)
+          (ReadsAs g.G.Fn c.args.fn_edge.now) (view c.args.value.now) _ c.in_ok-parts.ensures.ok _ n _
+          c.in_ok-edges.ensures.ok _ h)
+    ]

@@ -1,12 +1,18 @@
-use Rattle.std.proofs.Common.{sym, ap, ◌∙◌}
-use Rattle.std.specs.Prelude.{option_and_then}
-use Rattle.std.proofs.lemmas.Result.{IfOk-weaker}
-use Rattle.daggy_json.specs.Reading.{all_in, whole_in, holes_in}
-use Rattle.daggy_json.proofs.FoundParts.{array_some}
+use Rattle.std.proofs.Common.{inl, inr}
+use Rattle.std.proofs.lemmas.Result.{IfOk-weaker, IfErr-weaker}
+use Rattle.serde_json.specs.View.{view}
+use Rattle.daggy_json.proofs.MissingParts.{holes_given, holes_stopped}
 use Rattle.daggy_json.proofs.reading.parts.read_holes.Goals as goal
 
-pub returns : goal.returns
-returns c =
+pub returns-clause-ok : goal.returns-clause-ok
+returns-clause-ok c =
     IfOk-weaker c.read_numbers.result _ _
-    (λ o e. e ∙ (ap (option_and_then (all_in whole_in)) (sym (array_some _ _ c.in-Some-as_array.ensures))
-    ∙ ap holes_in c.in-Some.ensures)) c.read_numbers.ensures
+    (λ v e. holes_given (view c.args.value.now) (view c.in-Some.holes.now) c.in-Some.ensures c.in-Some-as_array.list.now.items c.in-Some-as_array.ensures v.items e) c.read_numbers.ensures.ok
+
+pub returns-clause-err : goal.returns-clause-err
+returns-clause-err c =
+    IfErr-weaker c.read_numbers.result _ _
+    (λ f h. elim h [
+      | inl memory ↦ inl memory
+      | inr s ↦ inr (holes_stopped (view c.args.value.now) (view c.in-Some.holes.now) c.in-Some.ensures c.in-Some-as_array.list.now.items c.in-Some-as_array.ensures f s)
+    ]) c.read_numbers.ensures.err

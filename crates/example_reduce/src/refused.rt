@@ -1,8 +1,9 @@
-//! A cycle of a document that holds no dag.
+//! What is wrong with a document that holds no dag.
 use anyhow::{Context, Result, bail};
 use daggy::NodeIndex;
 use daggy::components::find_cycle;
-use daggy::json::{ReadError, graph_from_json};
+use daggy::json::{Fault, ReadError, find_fault, graph_from_json};
+use daggy::run::Kind;
 use daggy::stable_graph::StableDiGraph;
 use serde_json::Value;
 use std::alloc::{AllocError, Global};
@@ -35,8 +36,21 @@ fn text_of(alloc: Global, nodes: &[NodeIndex]) -> Result<String> {
     Ok(text)
 }
 
-/// What was read of a document. An error for a cycle names its nodes.
-pub fn or_cycle<D: Drop>(alloc: Global, document: &Value, read: Result<D, ReadError>) -> Result<D> {
+// The first fault of a document that is not read as a graph.
+fn fault(alloc: Global, document: &Value, kind: Kind) -> Result<Fault> {
+    find_fault::<(), (), u32, _, _>(alloc, document, kind, no_weight, no_weight)?.context(
+        "document has no fault",
+    )
+}
+
+/// What was read of a document. The error names the nodes of a cycle, or else the first fault and
+/// its place.
+pub fn or_fault<D: Drop>(
+    alloc: Global,
+    document: &Value,
+    kind: Kind,
+    read: Result<D, ReadError>,
+) -> Result<D> {
     match read {
         Ok(dag) => Ok(dag),
         Err(ReadError::Cycle) => {
@@ -46,6 +60,7 @@ pub fn or_cycle<D: Drop>(alloc: Global, document: &Value, read: Result<D, ReadEr
                 text_of(alloc, nodes.as_slice())?
             )
         }
-        Err(error) => Err(error.into()),
+        Err(ReadError::Memory) => Err(ReadError::Memory.into()),
+        Err(_) => Err(fault(alloc, document, kind)?.into()),
     }
 }
