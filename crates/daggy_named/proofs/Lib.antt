@@ -9,3 +9,5 @@ pub mod NamedNodes
 pub mod DependenciesGone
 pub mod DependenciesSet
 pub mod PlansByKey
+pub mod WorkCounts
+pub mod Durations

@@ -1,8 +1,9 @@
 -- Lists of nodes that exist, and their keys.
 use Rattle.std.proofs.Common.{◌≡◌, ℕ, ◌+◌, suc, zero, ◌↔◌, List, [], ◌∷◌, Option, Some, None, IsSome, is_some, map}
-use Rattle.std.proofs.Common.{get_or, Contains, Bor, refl, sym, ap, subst, ◌∙◌, arith}
+use Rattle.std.proofs.Common.{get_or, Contains, Bor, Bool, true, slice_get, option_and_then, refl, sym, ap, subst, ◌∙◌, arith}
 use Rattle.std.proofs.lemmas.List.{length-map, get_or-map}
 use Rattle.std.proofs.lemmas.List.Elements.{Contains-get_or}
+use Rattle.std.specs.Cmp.{IsEquivalence}
 use Rattle.std.specs.List.{All, filter_map}
 use Rattle.std.specs.Option.{option_map, option_copied}
 use Rattle.std.proofs.lemmas.Bool.{false≢true}
@@ -15,8 +16,8 @@ use Rattle.daggy_base.specs.Path.{IsPath}
 use Rattle.daggy_base.specs.WellFormed.{IsWellFormed}
 use Rattle.daggy_order.specs.Paths.{IsShortestPath}
 use Rattle.daggy_reduction.specs.Descendants.{IsDescendantOf, IsDescendantOfAny, IsAncestorOfAny, IsOrderOfPart}
-use Rattle.daggy_named.specs.Naming.{key_at}
-use Rattle.daggy_named.proofs.Slots.{same_marks}
+use Rattle.daggy_named.specs.Naming.{Naming, IsNamed, key_at, index_by, is_named}
+use Rattle.daggy_named.proofs.Slots.{same_marks, slot_within, position_only}
 
 -- what holds of each number holds of the number of each item
 pub each_number : {I B : Type 0} (P : B → Type 0) (number : I → B) (items : List I) → All P (map number items)
@@ -131,6 +132,17 @@ module _ {K N E : Type 0} (keys : List (Option K)) (g : Graph N E) (exact : map 
 
   pub have_keys : (xs : List ℕ) → All (HasNode g) xs → All (λ n. IsSome (key_at keys n)) xs
   have_keys xs h k d low = has_key (get_or xs k d) (h k d low)
+
+-- a key that a node has leads to that node
+pub index_named : {K N E : Type 0} {eq : K → K → Bool} → IsEquivalence eq → (s : Naming K N E) → IsNamed eq s
+    → (n : ℕ) (k : K) → key_at s.keys n ≡ Some k → index_by (eq k) s.keys ≡ Some n
+index_named {K} {N} {E} {eq} laws s named n k at =
+    position_only (is_named (eq k)) s.keys n (Some k) (slot_within s.keys n k at) (laws.refl k) only
+  where
+    only : (m : ℕ) (x : Option K) → slice_get s.keys m ≡ Some x → is_named (eq k) x ≡ true → m ≡ n
+    only m None there passes = absurd (false≢true passes)
+    only m (Some y) there passes =
+        sym (named.once n m k y at (ap (option_and_then (λ z. z)) there) passes)
 
 -- what is behind a reference is there
 pub lent_some : {A : Type 0} (r : Option (Bor A)) {o : Option A} → option_copied r ≡ o → IsSome o → IsSome r

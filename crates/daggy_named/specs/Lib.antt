@@ -5,3 +5,5 @@ pub mod Lends
 pub mod Asked
 pub mod Dependencies
 pub mod Planned
+pub mod Working
+pub mod Scheduled

@@ -68,7 +68,8 @@ pub enum DependError<E> {
     #[error("no index left")]
     Full(E),
     /// The node to depend on is the dependent node itself or already depends on it, so the edge
-    /// would close a cycle.
+    /// would close a cycle. [`path`](crate::named::Named::path) from the dependent node's key to the
+    /// other one returns the keys of that cycle.
     #[error("would close a cycle")]
     WouldCycle(E),
     /// Out of memory for the edge.
@@ -113,7 +114,7 @@ pub enum DependenciesError<Q, E> {
     /// No node has the key of the dependent node.
     #[error("no node has the key of what needs them")]
     UnknownDependent(Vec<(Q, E)>),
-    /// No node has the key of the item at this place, counted from 0, which is the first such item.
+    /// The position, counted from 0, of the first item whose key belongs to no node.
     #[error("no node has the key of item {0}")]
     UnknownDependency(usize, Vec<(Q, E)>),
     /// One of the nodes to depend on is the dependent node itself or already depends on it, so its

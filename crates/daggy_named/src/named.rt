@@ -36,18 +36,22 @@ mod dependencies;
 mod keys;
 mod planning;
 mod questions;
+mod ready;
+mod scheduling;
 mod setting;
 mod topological;
 
 pub use dependencies::Dependency;
 pub use keys::{Keys, NeighborKeys};
 pub use planning::PlanByKey;
+pub use ready::ReadyKeys;
+pub use scheduling::ScheduleByKey;
 pub use topological::TopologicalKeys;
 
-/// A dag in which each node has a unique key, by which methods refer to it.
+/// A dag in which each node has a unique key, and whose methods refer to nodes by their keys.
 ///
-/// Nodes also have indices, which outlive removals: [`dag`](Named::dag) returns the [`StableDag`]
-/// inside.
+/// Nodes also have indices, which stay valid when other nodes are removed: [`dag`](Named::dag)
+/// returns the [`StableDag`] inside.
 ///
 /// Methods that look up a key take a `&K` or an equivalent value, like the lookups of `IndexMap`: a
 /// `&str` if the keys are `String`s.
@@ -319,7 +323,8 @@ impl<K: Eq + Hash + Drop, N: Drop, E: Drop, Ix: IndexType> Named<K, N, E, Ix> {
     /// with the edge that [`depend`](Named::depend) rejects, it is a cycle. `None` if there is no
     /// such path, or no such node.
     ///
-    /// The dag is unchanged; the call needs `&mut self` because it searches in memory of the dag.
+    /// The dag is unchanged; the call needs `&mut self` because it uses the dag's memory for
+    /// searches.
     ///
     /// # Errors
     ///
@@ -389,7 +394,7 @@ impl<K: Eq + Hash + Drop, N: Drop, E: Drop, Ix: IndexType> Named<K, N, E, Ix> {
     /// Removes the node with this key and its edges, and returns its key and its weight, or `None`
     /// if there is no such node.
     ///
-    /// No other index changes, and the next node that is added gets this one.
+    /// No other index changes, and the next node that is added gets this index.
     ///
     /// # Complexity
     ///

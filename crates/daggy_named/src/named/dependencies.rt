@@ -97,7 +97,7 @@ impl<K: Eq + Hash + Drop, N: Drop, E: Drop, Ix: IndexType> Named<K, N, E, Ix> {
     /// Removes a dependency and returns the weight of its edge, or `None` if there is none. Of
     /// parallel edges it removes the newest.
     ///
-    /// No other index changes, and the next edge that is added gets this one.
+    /// No other index changes, and the next edge that is added gets this index.
     ///
     /// # Complexity
     ///

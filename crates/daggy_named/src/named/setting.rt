@@ -174,7 +174,7 @@ impl<K: Eq + Hash + Drop, N: Drop, E: Drop, Ix: IndexType> Named<K, N, E, Ix> {
         false
     }
 
-    // Whether indices are left for so many edges.
+    // Whether the index type has indices left for `count` more edges.
     fn can_add_edges(&self, count: usize) -> bool
         ensures { IsTrue result ↔ (edge_count_of self.now.graph + count ≤ Ix.greatest) }
     {
@@ -289,8 +289,8 @@ impl<K: Eq + Hash + Drop, N: Drop, E: Drop, Ix: IndexType> Named<K, N, E, Ix> {
         self.set_in(n, items, room)
     }
 
-    /// Replaces what the node with this key depends on, all of it or nothing: afterwards one edge
-    /// enters the node for each item, from the node with the key of the item and with its weight.
+    /// Replaces what the node with this key depends on, all of it or nothing: afterwards, for each
+    /// item, one edge with the item's weight enters the node, from the node with the item's key.
     /// The new edges are added in the order of the items; then the old edges are removed, as by
     /// [`set_parents`](daggy_dag::acyclic::Acyclic::set_parents) of the dag, and their weights are
     /// dropped. The indices of other edges do not change.
@@ -303,10 +303,10 @@ impl<K: Eq + Hash + Drop, N: Drop, E: Drop, Ix: IndexType> Named<K, N, E, Ix> {
     /// Each error holds the items, in the same order, and the dag is unchanged. In this order:
     ///
     /// - `DependenciesError::UnknownDependent` if no node has the key.
-    /// - `DependenciesError::UnknownDependency` with a place, counted from 0, if no node has the key
-    ///   of the item there, and it is the first such item.
-    /// - `DependenciesError::WouldCycle` if a path leads from the node to one of those to depend on,
-    ///   or it is one of them, so that an edge would close a cycle.
+    /// - `DependenciesError::UnknownDependency` with the position, counted from 0, of the first
+    ///   item whose key belongs to no node.
+    /// - `DependenciesError::WouldCycle` if the node is one of the nodes to depend on, or a path
+    ///   leads from it to one of them, so that an edge would close a cycle.
     /// - `DependenciesError::Full` if there are too few indices for the new edges in addition to all
     ///   old edges.
     /// - `DependenciesError::Memory` if an allocation fails.

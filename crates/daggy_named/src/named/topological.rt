@@ -12,8 +12,9 @@ use std::hash::Hash;
 use std::iter::{DoubleEndedIterator, FusedIterator};
 use std::marker::Model;
 
-/// The keys of all nodes in topological order: each key comes after those of the nodes that its
-/// node depends on. It is double-ended: `.rev()` yields them before.
+/// The keys of all nodes in topological order: each key comes after the keys of the nodes that its
+/// node depends on. It is double-ended: `.rev()` yields them before. It is what
+/// [`topological_keys`](Named::topological_keys) returns.
 ///
 /// # Complexity
 ///
@@ -75,10 +76,10 @@ impl<'a, K: Eq + Hash, N: Drop, E: Drop, Ix: IndexType> fmt::Debug
 }
 
 impl<K: Eq + Hash + Drop, N: Drop, E: Drop, Ix: IndexType> Named<K, N, E, Ix> {
-    /// The keys of all nodes in topological order: each key comes after those of the nodes that its
-    /// node depends on. It is the order that the dag maintains, so nothing is searched or sorted,
-    /// and adding a node or a dependency may change it. It is double-ended: `.rev()` yields what
-    /// depends on a node before the node.
+    /// The keys of all nodes in topological order: each key comes after the keys of the nodes that
+    /// its node depends on. It is the order that the dag maintains, so nothing is searched or
+    /// sorted, and adding a node or a dependency may change it. It is double-ended: `.rev()` yields
+    /// what depends on a node before the node.
     ///
     /// # Complexity
     ///
