@@ -39,7 +39,7 @@ module _ {N E : Type 0} {end : ℕ} {g : Graph N E} (w : IsWellFormed end g) (or
             ))
       ]
 
-  joined : (x u : ℕ) → Contains (parents_of g x) u → AreJoined g u x
+  pub joined : (x u : ℕ) → Contains (parents_of g x) u → AreJoined g u x
   joined x u c =
       let p = Contains-from_map (λ k. parent_or (edge_at g k)) (in_list g x) u c in
       let q = (w.in_of.exact x p.0).0 p.1 in

@@ -186,10 +186,10 @@ module _ {waiting queue : List ℕ} {head tail : ℕ} {out done : List Bool} {fi
 
   -- ---- all are done
 
-  handed_sized : length (take head queue) ≡ head
+  pub handed_sized : length (take head queue) ≡ head
   handed_sized = length-take-le head queue (omega (arith, k.handed_low, k.queued_low))
 
-  ready_sized : length (drop head (take tail queue)) ≡ tail - head
+  pub ready_sized : length (drop head (take tail queue)) ≡ tail - head
   ready_sized =
       length-drop head (take tail queue) ∙ ap (λ z. z - head) (length-take-le tail queue k.queued_low)
 

@@ -30,3 +30,5 @@ pub mod KeysFrom
 pub mod Gathered
 pub mod ByKeys
 pub mod Reweighed
+pub mod Tallies
+pub mod Skipping

@@ -7,6 +7,7 @@ use Rattle.daggy_base.specs.Weights.{with_node_weight, with_edge_weight, edge_wi
 use Rattle.daggy_order.proofs.OrderLaws.{nodes_with_weight}
 use Rattle.daggy_schedule.specs.Work.{Work, IsUnderWay, MayBegin, is_set, parent_or, parents_of}
 use Rattle.daggy_schedule.specs.ByKey.{KeyedWork, IsUnderWayByKey, work_of}
+use Rattle.daggy_schedule.specs.Fallible.{FallibleWork, IsUnderWayWithFailures}
 
 -- the same nodes exist, with the same parents
 pub record HasSameParents {N E M F : Type 0} (g : Graph N E) (h : Graph M F) : Type 0 where
@@ -51,6 +52,14 @@ module _ {N E M F : Type 0} (g : Graph N E) (h : Graph M F) (s : HasSameParents 
         under_way = still_under_way (work_of work) u.under_way;
         flagged = λ n has. u.flagged n ((s.nodes n).0 has);
         keyed = λ n has fresh. u.keyed n ((s.nodes n).0 has) fresh;
+      }
+
+  pub still_under_way_with_failures : (work : FallibleWork) → IsUnderWayWithFailures g work → IsUnderWayWithFailures h work
+  still_under_way_with_failures work u =
+      record {
+        under_way = still_under_way work.work u.under_way;
+        flagged = λ n has. u.flagged n ((s.nodes n).0 has);
+        failed = u.failed;
       }
 
 -- ---- a weight is written

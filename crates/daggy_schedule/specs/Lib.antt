@@ -1,5 +1,6 @@
 pub mod Work
 pub mod Queue
+pub mod Fallible
 pub mod Times
 pub mod Passes
 pub mod LeastFirst

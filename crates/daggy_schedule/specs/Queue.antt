@@ -1,9 +1,11 @@
 -- How a ready queue keeps its work.
 use Rattle.std.specs.Prelude.{◌≡◌, ℕ, ◌+◌, ◌≤◌, ◌<◌, ◌==◌, ◌↔◌, Bool, true, false, List, [], ◌∷◌, Some, Contains}
 use Rattle.std.specs.Prelude.{slice_index_or, take, length, if◌then◌else◌}
+use Rattle.std.specs.List.{range_with_len}
 use Rattle.daggy_base.specs.Graph.{Graph, Edge, HasNode, edge_at, in_list}
+use Rattle.daggy_base.specs.Path.{AreJoined, Reaches}
 use Rattle.daggy_base.specs.WellFormed.{AreDistinct}
-use Rattle.daggy_schedule.specs.Work.{IsSet, is_set}
+use Rattle.daggy_schedule.specs.Work.{Work, IsSet, IsOut, is_set}
 
 -- how many numbers of a list pass a test
 abbrev pub count_of : (ℕ → Bool) → List ℕ → ℕ
@@ -38,3 +40,12 @@ pub record IsKept (waiting queue : List ℕ) (head tail : ℕ) (out done : List 
   pub handed : (n : ℕ) → IsSet out n ↔ Contains (take head queue) n
   pub begun : (n : ℕ) → IsSet done n → IsSet out n
   pub finished_is : finished ≡ count_of (is_set done) (take head queue)
+
+-- Failures, whatever the graph: only nodes that are out fail, and `failures` of them did.
+pub record IsTallied (work : Work) (failed : List Bool) (failures : ℕ) : Type 0 where
+  pub failed_out : (n : ℕ) → IsSet failed n → IsOut work n
+  pub failures_is : failures ≡ count_of (is_set failed) (range_with_len 0 (length failed))
+
+-- a path of one or more edges leads to the node from a node that failed
+abbrev pub IsBelowFailed : {N E : Type 0} → Graph N E → List Bool → ℕ → Type 0
+IsBelowFailed g failed n = (f : ℕ) × IsSet failed f × (v : ℕ) × AreJoined g f v × Reaches g v n

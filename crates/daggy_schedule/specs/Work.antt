@@ -1,7 +1,9 @@
 -- Work on the nodes of a graph, each node after its parents.
 use Rattle.std.specs.Prelude.{◌≡◌, ℕ, ◌==◌, ◌||◌, ◌&&◌, ◌↔◌, Bool, true, false, not, Option, Some, None, List, [], ◌∷◌}
 use Rattle.std.specs.Prelude.{map, length, filter, count_by, slice_get, slice_index_or, Contains, if◌then◌else◌}
+use Rattle.std.specs.List.{range_with_len}
 use Rattle.daggy_base.specs.Graph.{Graph, Edge, HasNode, edge_at, in_list, out_list}
+use Rattle.daggy_base.specs.Iterating.{node_identifiers}
 
 -- the parent of an edge, or 0 if there is no edge
 abbrev pub parent_or : {E : Type 0} → Option (Edge E) → ℕ
@@ -91,3 +93,19 @@ each_last (x ∷ xs) = if is_among xs x then each_last xs else x ∷ each_last x
 -- the children of a node whose parents are all done, in the order of its out list, each at its last edge there
 abbrev pub released : {N E : Type 0} → Graph N E → List Bool → ℕ → List ℕ
 released g done n = each_last (filter (has_done_parents g done) (children_of g n))
+
+-- whether the node is in progress
+abbrev pub is_out : Work → ℕ → Bool
+is_out work n = is_set work.out n && not (is_set work.done n)
+
+-- how many nodes are in progress
+abbrev pub out_count : Work → ℕ
+out_count work = count_by (is_out work) (range_with_len 0 (length work.out))
+
+-- whether the node is neither ready nor was returned
+abbrev pub is_waiting : Work → ℕ → Bool
+is_waiting work n = not (is_among work.ready n) && not (is_set work.out n)
+
+-- how many nodes of the graph are neither ready nor were returned
+abbrev pub waiting_count : {N E : Type 0} → Graph N E → Work → ℕ
+waiting_count g work = count_by (is_waiting work) (node_identifiers g)

@@ -3,6 +3,7 @@
 #![tactic(auto)]
 
 mod candidates;
+pub mod fallible_ready;
 pub mod on_workers;
 pub mod order_by;
 pub mod ready;

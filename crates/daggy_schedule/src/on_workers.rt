@@ -53,8 +53,8 @@ pub struct Assignment {
 /// is unspecified which of them takes the node. `durations` is called once with each node; the unit
 /// is up to the caller.
 ///
-/// The makespan is at most 2 - 1/workers times the least that is possible on as many workers
-/// (Graham's bound).
+/// The makespan is at most 2 - 1/workers times the least makespan that is possible with that many
+/// workers (Graham's bound).
 ///
 /// # Requires
 ///
@@ -63,8 +63,8 @@ pub struct Assignment {
 /// # Errors
 ///
 /// Returns `ScheduleError::Overflow` only if the bound on the makespan is 2^64 or more: the sum of
-/// all durations, plus those along a longest path times one less than the number of workers, divided
-/// by that number. Returns `ScheduleError::Memory` if an allocation fails.
+/// all durations, plus (workers - 1) times the sum of those along a longest path, all divided by
+/// the number of workers. Returns `ScheduleError::Memory` if an allocation fails.
 ///
 /// # Complexity
 ///

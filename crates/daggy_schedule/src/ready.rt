@@ -5,6 +5,8 @@ ghost use Rattle.daggy_base.specs.Graph.{HasNode, in_list, out_list, node_bound}
 ghost use Rattle.daggy_base.specs.Iterating.{node_identifiers};
 ghost use Rattle.daggy_schedule.specs.Work.{IsSet, IsOut, IsIdle, IsUnderWay};
 ghost use Rattle.daggy_schedule.specs.Work.{has_no_parents, released, each_last, children_of};
+ghost use Rattle.daggy_schedule.specs.Work.{out_count as out_count_of};
+ghost use Rattle.daggy_schedule.specs.Work.{waiting_count as waiting_count_of};
 ghost use Rattle.daggy_schedule.specs.Queue.{IsCounted, waits_for_none};
 
 use daggy_base::index::{DefaultIx, Direction, EdgeIndex, IndexType, NodeIndex};
@@ -20,13 +22,13 @@ use std::marker::Model;
 /// that are not done.
 ///
 /// It does not borrow the dag; each call that needs the dag borrows it for that call. Until all
-/// nodes are done, no node and no edge may be added or removed. Weights may be written: what the
-/// next call requires still holds then, by the lemmas in `proofs/Reweighed.antt`.
+/// nodes are done, no node and no edge may be added or removed. Weights may be written: by the
+/// lemmas in `proofs/Reweighed.antt`, what the next call requires still holds afterwards.
 ///
-/// For proofs: [`next`](Ready::next) and [`done`](Ready::done) require that no node or edge was
-/// added or removed since [`new`](Ready::new), and guarantee it to the next call. A struct that has
-/// both the dag and this queue states it once, as a field
-/// `ghost under_way: { IsUnderWay dag.now.graph ready }`.
+/// For proofs: [`next`](Ready::next) and [`done`](Ready::done) require that no node or edge has
+/// been added or removed since [`new`](Ready::new), and ensure that this still holds at the next
+/// call. A struct that has both the dag and this queue states this once, as a field `ghost
+/// under_way: { IsUnderWay dag.now.graph ready }`.
 ///
 /// # Complexity
 ///
@@ -239,6 +241,52 @@ impl<Ix: IndexType> Ready<Ix> {
             &mut self.queue,
             self.tail,
         );
+    }
+
+    /// How many nodes are ready.
+    ///
+    /// # Examples
+    ///
+    /// ```
+    /// let mut dag: Dag<&'static str, u32> = Dag::new(rt.alloc());
+    /// let sow = dag.add_node("sow")?;
+    /// dag.add_child(sow, 90, "reap")?;
+    /// let mut ready = Ready::new(rt.alloc(), &dag)?;
+    /// assert!(rt; ready.ready_count() == 1 && ready.waiting_count(&dag) == 1);
+    /// assert!(rt; ready.next(&dag) == Some(sow));
+    /// assert!(rt; ready.ready_count() == 0 && ready.out_count() == 1);
+    /// ```
+    pub fn ready_count(&self) -> usize
+        ensures { result ≡ length self.now.ready }
+    {
+        self.tail - self.head
+    }
+
+    /// How many nodes are in progress: [`next`](Ready::next) returned them, and they are not done.
+    pub fn out_count(&self) -> usize
+        ensures { result ≡ out_count_of self.now }
+    {
+        self.head - self.finished
+    }
+
+    /// The number of nodes that are waiting for parents: those that are not ready and have not been
+    /// returned.
+    ///
+    /// # Requires
+    ///
+    /// - The work was started on this `dag`, and no node or edge has been added or removed since.
+    ///   Weights may have been written.
+    ///
+    /// # Complexity
+    ///
+    /// O(1).
+    pub fn waiting_count<N: Drop, E: Drop, S>(&self, dag: &Acyclic<N, E, Ix, S>) -> usize
+    where
+        S: ReadStore<Ix, NodeWeight = N, EdgeWeight = E>,
+        requires { IsUnderWay dag.now.graph self.now }
+        ensures { result ≡ waiting_count_of dag.now.graph self.now }
+    {
+        dag.node_count() - self.tail
     }
 
     /// Whether all nodes are done: none is ready, and none is in progress.

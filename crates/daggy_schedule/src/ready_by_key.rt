@@ -27,12 +27,12 @@ use std::marker::Model;
 /// has no keys: it returns the nodes in the order in which they became ready.
 ///
 /// It does not borrow the dag; each call that needs the dag borrows it for that call. Until all
-/// nodes are done, no node and no edge may be added or removed. Weights may be written: what the
-/// next call requires still holds then, by the lemmas in `proofs/Reweighed.antt`.
+/// nodes are done, no node and no edge may be added or removed. Weights may be written: by the
+/// lemmas in `proofs/Reweighed.antt`, what the next call requires still holds afterwards.
 ///
 /// For proofs: [`next`](ReadyByKey::next) and [`done`](ReadyByKey::done) require that no node or
-/// edge was added or removed since [`new`](ReadyByKey::new), and guarantee it to the next call. A
-/// struct that has both the dag and this queue states it once, as a field
+/// edge has been added or removed since [`new`](ReadyByKey::new), and ensure that this still holds
+/// at the next call. A struct that has both the dag and this queue states this once, as a field
 /// `ghost under_way: { IsUnderWayByKey dag.now.graph ready }`.
 ///
 /// # Complexity

@@ -42,7 +42,7 @@ pub struct Schedule<Ix: IndexType = DefaultIx> {
     pub finishes: Vec<u64>,
     /// The slack of each node: how much later it can start without increasing the makespan.
     pub slack: Vec<u64>,
-    /// A critical path: a path whose durations sum up to the makespan. Empty only if there are no
+    /// A critical path: a path whose durations add up to the makespan. Empty only if there are no
     /// nodes. It ends with the node that finishes last, and each node comes after its parent that
     /// finishes last; ties go to the lowest index. So it depends only on the nodes, the adjacent
     /// pairs and the durations, and not on how the dag was built.
@@ -64,7 +64,7 @@ pub struct Schedule<Ix: IndexType = DefaultIx> {
 /// ```
 #[derive(Clone, Copy, Debug, Eq, Error, PartialEq)]
 pub enum ScheduleError {
-    /// The durations along some path sum up to 2^64 or more, or the makespan on workers may be that
+    /// The durations along some path add up to 2^64 or more, or the makespan on workers may be that
     /// long.
     #[error("the nodes take too long")]
     Overflow,
@@ -93,7 +93,7 @@ impl<Ix: IndexType> Schedule<Ix> {
     ///
     /// # Errors
     ///
-    /// Returns `ScheduleError::Overflow` if the durations along some path sum up to 2^64 or more,
+    /// Returns `ScheduleError::Overflow` if the durations along some path add up to 2^64 or more,
     /// and `ScheduleError::Memory` if an allocation fails before the overflow is detected.
     ///
     /// # Complexity

@@ -9,3 +9,4 @@ mod removals;
 mod setting;
 mod steps;
 mod support;
+mod work;

@@ -2,6 +2,7 @@
 //! hand.
 
 mod assignments;
+mod failures;
 mod keys;
 mod orders;
 mod refusals;

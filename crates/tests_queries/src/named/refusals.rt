@@ -6,6 +6,7 @@ use crate::support::{made, same};
 use daggy_base::index::NodeIndex;
 use daggy_named::error::{AddError, DependError, DependenciesError};
 use daggy_named::named::Named;
+use daggy_schedule::schedule::ScheduleError;
 use std::alloc::{AllocError, Global};
 use std::process::Abort;
 
@@ -81,7 +82,7 @@ fn is_cyclic<'x>(
     }
 }
 
-// Replaces what one key depends on, and then again as it was.
+// A set that would close a cycle is refused. Others replace the dependencies of node 5.
 fn replace_again(rt: &impl Abort, alloc: Global, dag: &mut Numbers) {
     is_cyclic(rt, alloc, dag, &1, &[(&0, 7), (&3, 8)]);
     same(rt, edge_count(dag), 8);
@@ -110,6 +111,21 @@ fn ask_again(rt: &impl Abort, dag: &Numbers) {
     same(rt, found, true);
 }
 
+// Asks what is ready, and when each key can start.
+fn work_again(rt: &impl Abort, dag: &Numbers) {
+    let mut ready = match dag.ready() {
+        Ok(ready) => ready,
+        Err(AllocError) => made(rt, dag.ready()),
+    };
+    same(rt, ready.next().copied(), Some(0));
+    let schedule = match dag.schedule(|_, duration| *duration) {
+        Ok(schedule) => schedule,
+        Err(ScheduleError::Memory) => made(rt, dag.schedule(|_, duration| *duration)),
+        Err(ScheduleError::Overflow) => panic!(rt; "the nodes do not take too long"),
+    };
+    same(rt, schedule.makespan(), 36);
+}
+
 fn call_again(rt: &impl Abort, dag: &mut Numbers) {
     for key in 0..9 {
         add_again(rt, dag, key);
@@ -128,6 +144,7 @@ fn call_again(rt: &impl Abort, dag: &mut Numbers) {
     }
     replace_again(rt, dag.dag().allocator(), dag);
     ask_again(rt, dag);
+    work_again(rt, dag);
     // A removal allocates nothing, nor does the next addition.
     same(rt, remove(dag, &8), Some((8, 8)));
     same(rt, add(dag, 9, 9).ok(), ends[1]);

@@ -5,6 +5,7 @@ use super::support::Plain;
 use crate::support::{lists, made, node, same};
 use daggy_base::index::NodeIndex;
 use daggy_base::store::Store;
+use daggy_schedule::fallible_ready::FallibleReady;
 use daggy_schedule::on_workers::schedule_on;
 use daggy_schedule::order_by::topological_order_by;
 use daggy_schedule::ready::Ready;
@@ -56,6 +57,26 @@ fn ready_by_key_again<S: Store<u32, NodeWeight = u64, EdgeWeight = ()>>(
     same(rt, ready.next(dag).map(NodeIndex::index), Some(0));
 }
 
+fn fallible_ready_again<S: Store<u32, NodeWeight = u64, EdgeWeight = ()>>(
+    rt: &impl Abort,
+    alloc: Global,
+    dag: &Plain<S>,
+) {
+    let mut ready = match FallibleReady::new(alloc, dag) {
+        Ok(ready) => ready,
+        Err(AllocError) => made(rt, FallibleReady::new(alloc, dag)),
+    };
+    let parent = node(rt, 0);
+    same(rt, ready.next(dag), Some(parent));
+    assert!(rt; ready.is_out(parent));
+    ready.fail(dag, parent);
+    let skipped = match ready.skipped(alloc, dag) {
+        Ok(skipped) => skipped,
+        Err(AllocError) => made(rt, ready.skipped(alloc, dag)),
+    };
+    lists(rt, skipped.as_slice(), &[1]);
+}
+
 fn schedule_again<S: Store<u32, NodeWeight = u64, EdgeWeight = ()>>(
     rt: &impl Abort,
     alloc: Global,
@@ -101,6 +122,7 @@ pub fn again<S: Store<u32, NodeWeight = u64, EdgeWeight = ()>>(rt: &impl Abort, 
     let dag = two_nodes::<S>(rt, alloc);
     ready_again(rt, alloc, &dag);
     ready_by_key_again(rt, alloc, &dag);
+    fallible_ready_again(rt, alloc, &dag);
     schedule_again(rt, alloc, &dag);
     order_again(rt, alloc, &dag);
     assign_again(rt, alloc, &dag);

@@ -3,6 +3,7 @@
 //! Each kind is named here alone, since a call at a kind costs a proof much more than a call at any
 //! dag.
 use super::assignments::{assigns_in_all_ways, assigns_past_a_slot};
+use super::failures::{works_off_failing, works_off_failing_past_a_slot};
 use super::keys::{works_off_by_keys, works_off_by_keys_past_a_slot};
 use super::orders::{orders_all, orders_past_a_slot};
 use super::refusals::again;
@@ -19,6 +20,8 @@ use std::process::Abort;
 pub enum Scene {
     Assigns,
     AssignsPastASlot,
+    Failures,
+    FailuresPastASlot,
     Keys,
     KeysPastASlot,
     Orders,
@@ -38,6 +41,8 @@ fn play<S: Store<u32, NodeWeight = u64, EdgeWeight = ()>>(
     match scene {
         Scene::Assigns => assigns_in_all_ways::<S>(rt, alloc),
         Scene::AssignsPastASlot => assigns_past_a_slot::<S>(rt, alloc),
+        Scene::Failures => works_off_failing::<S>(rt, alloc),
+        Scene::FailuresPastASlot => works_off_failing_past_a_slot::<S>(rt, alloc),
         Scene::Keys => works_off_by_keys::<S>(rt, alloc),
         Scene::KeysPastASlot => works_off_by_keys_past_a_slot::<S>(rt, alloc),
         Scene::Orders => orders_all::<S>(rt, alloc),
