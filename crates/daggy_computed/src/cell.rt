@@ -17,9 +17,9 @@
 pub struct Cell<K, V> {
     /// What the node's value is computed from, in addition to the values of its parents.
     pub formula: K,
-    /// The value that was computed last, or `None` if none was yet.
+    /// The value that was computed last, or `None` if none has been computed yet.
     pub value: Option<V>,
-    /// Whether the formula, the parents or the value of a parent changed since. Then the next refresh
-    /// computes the value again.
+    /// Whether the formula, the parents or the value of a parent has changed since then. If so, the
+    /// next refresh computes the value again.
     pub stale: bool,
 }

@@ -1,5 +1,5 @@
 //! Values that are computed along a dag: `Computed`.
-ghost use Rattle.std.specs.Prelude.{◌≡◌, ◌≢◌, ℕ, List, ◌<◌, ◌↔◌, ◌⊎◌, Bool, true, Some, None, Ok, Err};
+ghost use Rattle.std.specs.Prelude.{◌≡◌, ◌≢◌, ℕ, List, ◌+◌, ◌<◌, ◌↔◌, ◌⊎◌, Bool, true, Some, None, Ok, Err};
 ghost use Rattle.std.specs.Prelude.{IsTrue, Contains, IfOk, OnOk, IfErr, OnErr, IfSome, option_copied, []};
 ghost use Rattle.std.specs.Prelude.{map, reverse, vec_len};
 ghost use Rattle.std.specs.List.{All};
@@ -49,7 +49,7 @@ use std::marker::Model;
 /// the values of its parents.
 ///
 /// A change makes nodes stale. [`refresh`](Computed::refresh) computes the stale nodes, parents
-/// before children, and a node below them only if the value of one of its parents changed.
+/// before children, and a further node below them only if the value of one of its parents changed.
 ///
 /// # Examples
 ///
@@ -149,7 +149,7 @@ where
         self.dag.contains_node(n)
     }
 
-    /// Returns the formula of a node, if it exists.
+    /// Returns the formula of a node, if the node exists.
     ///
     /// # Examples
     ///
@@ -197,8 +197,8 @@ where
     }
 
     /// Returns a shortest path from `a` to `b`, as its nodes in order, or `None` if no path leads
-    /// from `a` to `b`. Where [`set_parents`](Computed::set_parents) refuses `b` as a parent of `a`,
-    /// the path and the refused edge are the cycle.
+    /// from `a` to `b`. Where [`set_parents`](Computed::set_parents) refuses `b` as a parent of
+    /// `a`, the path and the refused edge form the cycle.
     ///
     /// # Errors
     ///
@@ -221,11 +221,11 @@ where
         self.dag.path(a, b)
     }
 
-    /// Whether no node is stale. Then the value of each node is up to date.
+    /// Whether no node is stale. If so, the value of each node is up to date.
     ///
     /// # Complexity
     ///
-    /// O(stale nodes), and those that were stale and were removed since the last refresh.
+    /// O(stale nodes), plus those that were stale and have been removed since the last refresh.
     ///
     /// # Examples
     ///
@@ -244,8 +244,8 @@ where
         none_stale(self.entries.as_slice(), &self.queue)
     }
 
-    /// Whether neither a node nor an ancestor of it is stale. Then its value is up to date, though
-    /// others may be stale.
+    /// Whether a node and all its ancestors are fresh: none of them is stale. If so, the node's
+    /// value is up to date, though other nodes may be stale.
     ///
     /// # Errors
     ///
@@ -253,7 +253,8 @@ where
     ///
     /// # Complexity
     ///
-    /// O(k log k + edges) for the k ancestors of the node and the edges that enter them or it.
+    /// O(k log k + edges) for the k ancestors of the node and the edges that enter them or the
+    /// node.
     pub fn is_up_to_date(&mut self, n: NodeIndex<Ix>) -> Result<bool, AllocError>
         ensures exact { IfOk result (λ b. IsTrue b ↔ IsUpToDate self.old.graph (Ix.number n)) }
         ensures unchanged { self.new ≡ self.old }
@@ -262,15 +263,15 @@ where
         Ok(none_stale_among(self.entries.as_slice(), needed.as_slice()))
     }
 
-    /// Returns the nodes whose values were new in the last refresh, parents before children, even if
-    /// it ended early. Nodes that were removed since are still among them.
+    /// Returns the nodes whose values were new in the last refresh, parents before children, even
+    /// if that refresh ended early. Nodes that have been removed since then are still among them.
     pub fn changed(&self) -> &[NodeIndex<Ix>]
         ensures { map Ix.number result.now ≡ self.now.changed }
     {
         self.changed.as_slice()
     }
 
-    /// Returns the value that was computed last for a node, though it may be out of date.
+    /// Returns the most recently computed value of a node, which may be out of date.
     pub fn last_value(&self, n: NodeIndex<Ix>) -> Option<&V>
         ensures { option_copied result ≡ value_of_node self.now.graph (Ix.number n) }
     {
@@ -343,6 +344,17 @@ where
     /// # Requires
     ///
     /// - `n` is a node of the dag. Test: `contains_node(n)`.
+    ///
+    /// # Examples
+    ///
+    /// ```
+    /// let mut sums: ComputedDag<u32, u32, ()> = ComputedDag::new(rt.alloc());
+    /// let hens = sums.add(3)?;
+    /// let same = |formula: &u32, _inputs: Inputs<'_, u32>| -> Result<u32, ()> { Ok(*formula) };
+    /// assert!(rt; sums.refresh(same).is_ok() && sums.is_fresh());
+    /// sums.invalidate(hens);
+    /// assert!(rt; !sums.is_fresh());
+    /// ```
     pub fn invalidate(&mut self, n: NodeIndex<Ix>)
         requires { HasNode self.old.graph (Ix.number n) }
         ensures marked { self.new ≡ with_graph self.old (marked self.old.graph (Ix.number n)) }
@@ -403,6 +415,9 @@ where
         requires parents { All (λ x. HasNode self.old.graph (Ix.number x.0)) parents.items }
         ensures cycle { (result ≡ Err (formula, ByCycle (record { 0 = parents })))
             ↔ ReachesParent Ix.number self.old.graph (Ix.number n) parents.items }
+        ensures full { (result ≡ Err (formula, NoIndex parents))
+            ↔ ((¬ ReachesParent Ix.number self.old.graph (Ix.number n) parents.items)
+            × (Ix.greatest < edge_count_of self.old.graph + vec_len parents)) }
         ensures refusal { IfErr result (λ e. (e.0 ≡ formula)
             × ((e.1 ≡ ByCycle (record { 0 = parents }))
             ⊎ ((e.1 ≡ NoIndex parents) ⊎ IsMemory parents.items e.1))) }
@@ -507,8 +522,9 @@ where
 {
     /// Computes the stale nodes, parents before children. `f` is called with the formula of a node
     /// and the values of its parents, in the order in which the edges were added. If the value that
-    /// it returns equals the last one, that one is kept; otherwise the value is new, and the children
-    /// of the node are stale. [`changed`](Computed::changed) returns the nodes whose values were new.
+    /// `f` returns equals the last one, the last one is kept; otherwise the value is new, and the
+    /// children of the node are stale. [`changed`](Computed::changed) returns the nodes whose
+    /// values were new.
     ///
     /// A node is computed at most once, and only if it was stale before or the value of one of its
     /// parents was new.
@@ -520,14 +536,14 @@ where
     /// # Errors
     ///
     /// Returns `RefreshError::Failed` with the node if `f` returns an error, and
-    /// `RefreshError::Memory` if an allocation fails. The nodes before have their values then, and
-    /// the others are still stale, so the next refresh goes on with them.
+    /// `RefreshError::Memory` if an allocation fails. Nodes computed before the error keep their
+    /// new values. The others are still stale, so the next refresh continues with those.
     ///
     /// # Complexity
     ///
-    /// O(k log k + edges) for the k nodes that were stale or are computed and the edges that enter or
-    /// leave those that are computed, plus the calls. It allocates only for lists of parents and of
-    /// changed nodes that are longer than any before.
+    /// O(k log k + edges) for the k nodes that were stale or are computed, and for the edges that
+    /// enter or leave the computed ones, plus the calls. It allocates only for lists of parents and
+    /// of changed nodes that are longer than any before.
     pub fn refresh<X: Drop, F: Fn(&K, Inputs<'_, V>) -> Result<V, X>>(
         &mut self,
         f: F,
@@ -558,9 +574,10 @@ where
         )
     }
 
-    /// Computes one node with what it needs: its stale ancestors and itself, parents before
-    /// children, and an ancestor below them only if the value of one of its parents changed. Other
-    /// nodes stay as they are, but for children of nodes whose values are new, which are stale then.
+    /// Computes one node and what it needs: its stale ancestors and itself, parents before
+    /// children, and a further ancestor below them only if the value of one of its parents changed.
+    /// Other nodes stay as they are, except that the children of nodes whose values are new are
+    /// then stale.
     ///
     /// The function is as for [`refresh`](Computed::refresh), and [`changed`](Computed::changed)
     /// returns the nodes whose values were new.
@@ -572,13 +589,13 @@ where
     /// # Errors
     ///
     /// Returns `RefreshError::Failed` with the node if `f` returns an error, and
-    /// `RefreshError::Memory` if an allocation fails. The nodes before have their values then, and
-    /// the others are still stale.
+    /// `RefreshError::Memory` if an allocation fails. The nodes computed before the error then have
+    /// their values, and the others are still stale.
     ///
     /// # Complexity
     ///
-    /// O(k log k + edges) for the k ancestors of the node and the edges that enter them or it, and
-    /// the edges that leave those that are computed, plus the calls.
+    /// O(k log k + edges) for the k ancestors of the node, the edges that enter them or the node,
+    /// and the edges that leave the nodes that are computed, plus the calls.
     pub fn refresh_node<X: Drop, F: Fn(&K, Inputs<'_, V>) -> Result<V, X>>(
         &mut self,
         n: NodeIndex<Ix>,

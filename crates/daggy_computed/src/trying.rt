@@ -1,12 +1,12 @@
 //! Methods that test what `add`, `set` and the like require.
-ghost use Rattle.std.specs.Prelude.{◌≡◌, ◌≢◌, ℕ, List, ◌<◌, ◌≤◌, ◌↔◌, ◌⊎◌, Bool, true, Some, None, Err};
+ghost use Rattle.std.specs.Prelude.{◌≡◌, ◌≢◌, ℕ, List, ◌+◌, ◌<◌, ◌≤◌, ◌↔◌, ◌⊎◌, Bool, true, Some, None, Err};
 ghost use Rattle.std.specs.Prelude.{IsTrue, IfOk, OnOk, IfErr, OnErr, IfSome, IsSome, IfNone, OnSome};
-ghost use Rattle.std.specs.Prelude.{map, reverse};
+ghost use Rattle.std.specs.Prelude.{map, reverse, vec_len};
 ghost use Rattle.std.specs.List.{All};
 ghost use Rattle.std.specs.Option.{option_map};
 ghost use Rattle.daggy_base.specs.Adding.{next_node, with_node};
 ghost use Rattle.daggy_base.specs.Graph.{HasNode, node_weight as node_weight_at};
-ghost use Rattle.daggy_base.specs.Graph.{node_count as node_count_of};
+ghost use Rattle.daggy_base.specs.Graph.{node_count as node_count_of, edge_count as edge_count_of};
 ghost use Rattle.daggy_base.specs.Removal.{without_node};
 ghost use Rattle.daggy_base.specs.declared.error.NodeError.TheVariants.{Memory as NodeMemory};
 ghost use Rattle.daggy_base.specs.declared.error.NodeError.TheVariants.{Full as NodeFull};
@@ -179,6 +179,11 @@ where
             → All (λ x. HasNode self.old.graph (Ix.number x.0)) parents.items
             → (result ≡ Err (formula, Refused (ByCycle (record { 0 = parents }))))
             ↔ ReachesParent Ix.number self.old.graph (Ix.number n) parents.items }
+        ensures full { HasNode self.old.graph (Ix.number n)
+            → All (λ x. HasNode self.old.graph (Ix.number x.0)) parents.items
+            → (result ≡ Err (formula, Refused (NoIndex parents)))
+            ↔ ((¬ ReachesParent Ix.number self.old.graph (Ix.number n) parents.items)
+            × (Ix.greatest < edge_count_of self.old.graph + vec_len parents)) }
         ensures refusal { IfErr result (λ e. (e.0 ≡ formula)
             × ((e.1 ≡ Missing parents) ⊎ ((r : ParentsError E Ix) × (e.1 ≡ Refused r)
             × ((r ≡ ByCycle (record { 0 = parents }))

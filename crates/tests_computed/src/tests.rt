@@ -3,7 +3,7 @@
 use crate::sheet::{
     Formula, add, has, invalidate, refreshes, refreshes_node, remove, set, set_parents, value,
 };
-use daggy_base::error::NodeError;
+use daggy_base::error::{NodeError, ParentsError};
 use daggy_base::index::NodeIndex;
 use daggy_base::store::Store;
 use daggy_computed::computed::{Computed, ComputedDag, StableComputedDag};
@@ -215,4 +215,48 @@ fn what_does_not_exist_is_refused(rt: HostRuntime) -> Result<(), Fail> {
     let alloc = rt.alloc();
     refuses(&rt, alloc, ComputedDag::new(alloc))?;
     refuses(&rt, alloc, StableComputedDag::new(alloc))
+}
+
+// How many parents a node does not get because too few indices are left for the edges.
+fn parents_too_many<S: Store<u8, NodeWeight = i64, EdgeWeight = ()>>(
+    alloc: Global,
+    sums: &mut Computed<i64, i64, (), u8, S>,
+    n: NodeIndex<u8>,
+    parent: NodeIndex<u8>,
+    count: usize,
+) -> Result<usize, AllocError> {
+    let mut parents = Vec::new(alloc);
+    for _ in 0..count {
+        parents.push((parent, ()))?;
+    }
+    match sums.try_set_parents(n, 4, parents) {
+        Err((4, TryParentsError::Refused(ParentsError::Full(parents)))) => Ok(parents.len()),
+        _ => Ok(0),
+    }
+}
+
+// An `u8` has 255 indices for edges. New edges need indices in addition to the old ones.
+fn fills_the_edges<S: Store<u8, NodeWeight = i64, EdgeWeight = ()>>(
+    rt: &impl Abort,
+    alloc: Global,
+    mut sums: Computed<i64, i64, (), u8, S>,
+) -> Result<(), Fail> {
+    let (Ok(a), Ok(b)) = (sums.try_add(1), sums.try_add(2)) else {
+        panic!(rt; "not added");
+    };
+    assert!(rt; parents_too_many(alloc, &mut sums, b, a, 256)? == 256);
+    assert!(rt; parents_too_many(alloc, &mut sums, b, a, 255)? == 0);
+    assert!(rt; sums.dag().edge_count() == 255);
+    assert!(rt; parents_too_many(alloc, &mut sums, b, a, 1)? == 1);
+    // A cycle is reported first.
+    assert!(rt; parents_too_many(alloc, &mut sums, a, b, 1)? == 0);
+    assert!(rt; sums.formula(b) == Some(&4) && sums.formula(a) == Some(&1));
+    Ok(())
+}
+
+#[test]
+fn parents_without_indices_are_refused(rt: HostRuntime) -> Result<(), Fail> {
+    let alloc = rt.alloc();
+    fills_the_edges(&rt, alloc, ComputedDag::new(alloc))?;
+    fills_the_edges(&rt, alloc, StableComputedDag::new(alloc))
 }

@@ -1,7 +1,7 @@
-use Rattle.std.proofs.Common.{◌≡◌, ◌↔◌, ℕ, List, map, length, get_or, Ok, Err, sym, ap, subst, ◌∙◌, arith}
+use Rattle.std.proofs.Common.{◌≡◌, ◌↔◌, ◌+◌, ◌<◌, ℕ, List, map, length, get_or, Ok, Err, sym, ap, subst, ◌∙◌, arith, vec_len}
 use Rattle.std.specs.Prelude.{Result}
 use Rattle.std.specs.Option.{option_map}
-use Rattle.daggy_base.specs.Graph.{Graph, HasNode, slot}
+use Rattle.daggy_base.specs.Graph.{Graph, HasNode, slot, edge_count}
 use Rattle.daggy_guard.specs.Parents.{ReachesParent, entering}
 use Rattle.daggy_computed.specs.declared.entry.Entry.{Entry}
 use Rattle.daggy_computed.specs.Cells.{cells, with_entries}
@@ -28,6 +28,19 @@ reaches_parent number g es n items = (
   λ r. (r.0, r.1, (reaches_cells g es n (number r.0.0)).0 r.2),
   λ r. (r.0, r.1, (reaches_cells g es n (number r.0.0)).1 r.2),
 )
+
+-- `count` items close no cycle, and there are too few indices for them
+abbrev IsFull : {I N E : Type 0} → (number : I → ℕ) → ℕ → Graph N E → ℕ → List (I × E) → ℕ → Type 0
+IsFull number end g n items count = (¬ ReachesParent number g n items) × (end < edge_count g + count)
+
+-- it is the same in the graph of cells
+full_cells : {K V E I : Type 0} (number : I → ℕ) (end : ℕ) (g : Graph K E) (es : List (Entry V)) (n : ℕ)
+    (items : List (I × E)) (count : ℕ) → IsFull number end g n items count ↔ IsFull number end (cells g es) n items count
+full_cells number end g es n items count =
+    let both = reaches_parent number g es n items in (
+      λ f. (λ r. f.0 (both.1 r), f.1),
+      λ f. (λ r. f.0 (both.0 r), f.1),
+    )
 
 pub set_parents-requires-clause-node : goal.set_parents-requires-clause-node
 set_parents-requires-clause-node g c =
@@ -59,6 +72,19 @@ returns-in-Err-clause-cycle g c =
       λ h. subst (λ z. ReachesParent number z.graph n items) c.self.view_is (both.0 (c.in-Err.ensures.cycle.0 (ap second h))),
       λ r. ap (λ e. Err (c.args.formula, e))
           (errors {A = Unit {0}} _ _ (c.in-Err.ensures.cycle.1 (both.1 (subst (λ z. ReachesParent number z.graph n items) (sym c.self.view_is) r)))),
+    )
+
+pub returns-in-Err-clause-full : goal.returns-in-Err-clause-full
+returns-in-Err-clause-full g c =
+    let number = g.Ix.IndexType.number in
+    let end = g.Ix.IndexType.greatest in
+    let n = number c.args.n in
+    let items = c.args.parents.items in
+    let count = vec_len c.args.parents in
+    let both = full_cells number end c.self.inside.dag.graph c.self.inside.entries.items n items count in (
+      λ h. subst (λ z. IsFull number end z.graph n items count) c.self.view_is (both.0 (c.in-Err.ensures.full.0 (ap second h))),
+      λ r. ap (λ e. Err (c.args.formula, e))
+          (errors {A = Unit {0}} _ _ (c.in-Err.ensures.full.1 (both.1 (subst (λ z. IsFull number end z.graph n items count) (sym c.self.view_is) r)))),
     )
 
 pub returns-in-Err-clause-unchanged : goal.returns-in-Err-clause-unchanged
@@ -101,6 +127,19 @@ returns-clause-cycle g c =
     let both = reaches_parent number c.self.inside.dag.graph c.self.inside.entries.items n items in (
       λ h. absurd cc,
       λ r. (let e = c.in-Ok.ensures.cycle.1 (both.1 (subst (λ z. ReachesParent number z.graph n items) (sym c.self.view_is) r)) in
+          absurd cc),
+    )
+
+pub returns-clause-full : goal.returns-clause-full
+returns-clause-full g c =
+    let number = g.Ix.IndexType.number in
+    let end = g.Ix.IndexType.greatest in
+    let n = number c.args.n in
+    let items = c.args.parents.items in
+    let count = vec_len c.args.parents in
+    let both = full_cells number end c.self.inside.dag.graph c.self.inside.entries.items n items count in (
+      λ h. absurd cc,
+      λ r. (let e = c.in-Ok.ensures.full.1 (both.1 (subst (λ z. IsFull number end z.graph n items count) (sym c.self.view_is) r)) in
           absurd cc),
     )
 
