@@ -55,11 +55,13 @@ pub use Rattle.daggy_dag.specs.Connecting
 pub use Rattle.daggy_dag.specs.WholeReduction
 pub use Rattle.daggy_dag.specs.FromGraph
 pub use Rattle.daggy_operators.specs.Operators
+pub use Rattle.daggy_operators.specs.Common
 pub use Rattle.daggy_schedule.specs.Work
 pub use Rattle.daggy_schedule.specs.Times
 pub use Rattle.daggy_schedule.specs.LeastFirst
 pub use Rattle.daggy_schedule.specs.Assignments
 pub use Rattle.daggy_schedule.specs.ByKey
+pub use Rattle.daggy_schedule.specs.Fallible
 pub use Rattle.daggy_traversal.specs.Traversal
 pub use Rattle.daggy_traversal.specs.Breadth
 pub use Rattle.daggy_traversal.specs.Depth
@@ -67,6 +69,8 @@ pub use Rattle.daggy_traversal.specs.Postorder
 pub use Rattle.daggy_named.specs.Dependencies
 pub use Rattle.daggy_named.specs.Naming
 pub use Rattle.daggy_named.specs.Planned
+pub use Rattle.daggy_named.specs.Working
+pub use Rattle.daggy_named.specs.Scheduled
 pub use Rattle.daggy_named.specs.Asked
 pub use Rattle.daggy_named.specs.Refused
 pub use Rattle.daggy_named.specs.Lends as NamedLends
@@ -90,6 +94,7 @@ pub use Rattle.daggy_run.specs.Runs
 pub use Rattle.daggy_run.specs.Plans
 pub use Rattle.daggy_json.specs.Document
 pub use Rattle.daggy_json.specs.Reading
+pub use Rattle.daggy_json.specs.Fault
 pub use Rattle.daggy_json.specs.Weight
 pub use Rattle.daggy_json.specs.Restoring
 pub use Rattle.daggy_json.specs.Streaming

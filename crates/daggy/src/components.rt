@@ -2,13 +2,14 @@
 //!
 //! [`strongly_connected_components`] finds the classes of nodes that reach each other,
 //! [`weakly_connected_components`] the classes of nodes that are connected whatever the direction
-//! of the edges, and [`find_cycle`] a cycle, if there is one. [`shortest_cycle`] finds a shortest
-//! one through a node, and [`feedback_arc_set`] edges to leave out so that there is none.
+//! of the edges, and [`find_cycle`] finds a cycle, if there is one. [`shortest_cycle`] finds a
+//! shortest cycle through a node, and [`feedback_arc_set`] finds edges whose removal makes the
+//! graph acyclic.
 //!
 //! The condensation of a graph has a node for each strongly connected component. [`condensed_dag`]
-//! makes a dag of it, and [`condensation`] a store, with one edge for each two components.
-//! [`condensed_dag_with_all_edges`] has all edges between components, and
-//! [`condensed_dag_with_fold`] one for each two, with their weights folded.
+//! makes a dag of it, and [`condensation`] a store, each with one edge for each pair of components
+//! that edges connect. [`condensed_dag_with_all_edges`] has all edges between components, and
+//! [`condensed_dag_with_fold`] has one for each such pair, with the weights of these edges folded.
 pub use daggy_components::{
     Components, EdgeSlots, Iter, NodeSlots, condensation, condensation_slots, find_cycle,
     strongly_connected_components, weakly_connected_components,

@@ -1,15 +1,18 @@
 //! Dags as JSON values.
 //!
-//! A document has the weights of the nodes, the edges, and the order of the edges in the lists of
-//! each node, so that reading it restores the dag. The caller passes functions that encode and
-//! decode the weights.
+//! A document has the node weights, the edges, and the order of the edges in the lists of each
+//! node, so that reading it restores the dag. The caller passes functions that encode and decode
+//! the weights.
 //!
 //! [`dag_to_json`] and [`stable_to_json`] make a value, and [`write_json`] writes the text without
 //! making one. [`write_short_json`] leaves out the orders of the lists where they are the default.
-//! [`dag_from_json`] and [`stable_from_json`] read a value,
-//! and [`graph_from_json`] reads one whose graph may have cycles.
+//! [`dag_from_json`] and [`stable_from_json`] read a value, and [`graph_from_json`] reads one whose
+//! graph may have cycles. [`find_fault`] returns the place of the first fault of a value that
+//! cannot be read.
 pub use daggy_json::documents::{
     dag_from_json, dag_to_json, graph_from_json, stable_from_json, stable_to_json, write_json,
     write_short_json,
 };
 pub use daggy_json::error::{ReadError, StreamError, WriteError};
+pub use daggy_json::fault::{Fault, Member, Place};
+pub use daggy_json::finding::find_fault;

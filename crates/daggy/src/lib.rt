@@ -17,9 +17,9 @@
 //! keeps the indices of everything else. Both are an [`Acyclic`] over a [`Store`], so that code can
 //! be written for either; code that only reads has the bound [`ReadStore`].
 //!
-//! - [`named`]: dags whose nodes have keys, and whose methods require nothing; [`computed`]: dags
+//! - [`named`]: dags whose nodes have keys, and whose methods take any key; [`computed`]: dags
 //!   whose nodes have formulas and values.
-//! - [`operators`]: subgraphs of a dag, and reversed dags.
+//! - [`operators`]: subgraphs of a dag, reversed dags, and lowest common ancestors.
 //! - [`schedule`]: ready queues, schedules and orders by keys; [`run`]: plans in stages, and lists
 //!   of commands.
 //! - [`traversal`]: breadth first and depth first; [`walker`]: walks along edges, and their

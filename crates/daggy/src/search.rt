@@ -1,9 +1,9 @@
 //! Searches over any graph whose edges can be read one at a time.
 //!
-//! The functions take any [`EdgeSource`]: a store, or a view of a store that is only borrowed,
-//! along its edges ([`Reading`]) or against them ([`Reversed`]). Most of them search in the memory
-//! of a [`Scratch`], which the caller keeps from one search to the next. Those that take an
-//! [`Order`] of the nodes use it to search only a part of the graph, or to sort what they find.
+//! The functions take any [`EdgeSource`]: a store, or a view of a borrowed store that follows its
+//! edges forward ([`Reading`]) or backward ([`Reversed`]). Most of them search in the memory of a
+//! [`Scratch`], which the caller keeps from one search to the next. Those that take an [`Order`] of
+//! the nodes use it to search only a part of the graph, or to sort what they find.
 pub use daggy_base::looks::Looks;
 pub use daggy_base::source::{EdgeSource, IndexedSource};
 pub use daggy_order::order::{Nodes, Order, order_edge, path_in, reaches_in};

@@ -78,7 +78,7 @@ impl<E, Ix: IndexType> Edge<E, Ix> {
     }
 
     /// The edge after this one in the out list of its source, or in the in list of its target, or
-    /// `end` if it is the last.
+    /// `end` if this one is the last.
     #[inline]
     pub fn next_edge(&self, dir: Direction) -> EdgeIndex<Ix>
         ensures { Ix.number result ≡ raw_next dir self.now }

@@ -59,7 +59,7 @@ impl<'a, E, Ix: IndexType> EdgeReference<'a, E, Ix> {
         EdgeIndex::new(self.id.index())
     }
 
-    /// The node that the edge leaves, also if it was found in an in list.
+    /// The node that the edge leaves, even if the edge was found in an in list.
     #[inline]
     pub fn source(&self) -> NodeIndex<Ix>
         ensures { result ≡ self.now.source }

@@ -20,8 +20,8 @@ fn next_place(k: usize, len: usize) -> usize
     if k + 1 < len { k + 1 } else { 0 }
 }
 
-/// The edges of a cycle that is given by its nodes: one from each node to the next, and one from the
-/// last node to the first. Of parallel edges it is the newest.
+/// The edges of a cycle that is given by its nodes: one from each node to the next, and one from
+/// the last node to the first. If there are parallel edges, it is the newest of them.
 ///
 /// # Requires
 ///
@@ -70,8 +70,8 @@ pub fn cycle_edges<Ix: IndexType, S: ReadStore<Ix>>(
 
 /// The edges of a cycle of the graph, or `None` if the graph is acyclic.
 ///
-/// Each edge leads to the node that the next one leaves, and the last one to the node that the first
-/// one leaves. No node is passed twice. An edge from a node to itself is a cycle of one edge.
+/// Each edge ends at the node where the next one starts, and the last ends where the first starts.
+/// No node is passed twice. An edge from a node to itself is a cycle of one edge.
 ///
 /// # Errors
 ///

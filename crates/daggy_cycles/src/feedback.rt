@@ -103,15 +103,15 @@ fn sort_by_index<Ix: IndexType>(edges: &mut Vec<EdgeIndex<Ix>>)
     edges.sort_unstable_by_key(|e| e.index());
 }
 
-/// A feedback arc set: edges without which the graph has no cycle. It is minimal by inclusion: if
-/// any one of them stays, there is a cycle.
+/// A feedback arc set: edges without which the graph has no cycle. The set is minimal under
+/// inclusion: if any one of its edges stays, there is a cycle.
 ///
 /// These are exactly the edges that a dag refuses if they are added to it one by one: first the
-/// preferred ones in their order, then all others by ascending index. An edge that is preferred
-/// twice counts once, and an index of no edge counts nothing.
+/// preferred ones in their order, then all others by ascending index. An edge that is given twice
+/// counts once, and an index of no edge is ignored.
 ///
-/// The result is by ascending index. So if its edges are removed from the last one down, the other
-/// indices stay valid in a compact graph too.
+/// The result is in ascending index order. So if its edges are removed from the last to the first,
+/// the other indices stay valid in a compact graph too.
 ///
 /// # Errors
 ///
@@ -119,8 +119,8 @@ fn sort_by_index<Ix: IndexType>(edges: &mut Vec<EdgeIndex<Ix>>)
 ///
 /// # Complexity
 ///
-/// Finding the components takes O(nodes + edges). Of the other edges, those whose ends are in one
-/// component are added to a dag in turn, which may take a search within the component for each.
+/// Finding the components takes O(nodes + edges). The other edges with both ends in the same
+/// component are added to a dag one by one; each may need a search within that component.
 ///
 /// # Examples
 ///

@@ -45,7 +45,7 @@ fn way_to<Ix: IndexType>(
     Ok(way)
 }
 
-/// A shortest cycle through a node, by its nodes, or `None` if the node is on no cycle.
+/// The nodes of a shortest cycle through a node, or `None` if the node is on no cycle.
 ///
 /// The node itself comes first; each is joined to the next, and the last to the first. None of them
 /// occurs twice.
@@ -56,8 +56,8 @@ fn way_to<Ix: IndexType>(
 ///
 /// # Complexity
 ///
-/// O(nodes, and edges that leave nodes that are nearer than the cycle is long), with at most one look
-/// at each edge.
+/// O(nodes + edges that leave nodes whose distance from the node is less than the length of the
+/// cycle); each edge is read at most once.
 ///
 /// # Examples
 ///

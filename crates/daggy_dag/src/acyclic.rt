@@ -644,7 +644,7 @@ where
     /// Removes an edge and returns its weight, or `None` if there is no such edge.
     ///
     /// In a [`Dag`] the edge with the last index gets its index. In a [`StableDag`] no other index
-    /// changes, and the next edge that is added gets this one.
+    /// changes, and the next edge that is added gets this index.
     ///
     /// # Complexity
     ///
@@ -679,7 +679,7 @@ where
     /// The edges are removed one by one, as by [`remove_edge`](Acyclic::remove_edge), first the
     /// edges to its children. In a [`Dag`] the node with the last index then gets the index of this
     /// node. In a [`StableDag`] no other index changes, and the next node that is added gets this
-    /// one.
+    /// index.
     ///
     /// # Complexity
     ///

@@ -100,7 +100,7 @@ pub(crate) fn write_quoted<D: Display + Drop, W: Write>(
 ///
 /// A quote, a backslash, a newline and an ampersand are escaped, so that graphviz shows the text as
 /// it is. A character that graphviz does not allow, such as a control character, is written as
-/// U+FFFD. A long text is written on several lines, because graphviz cannot read a line of 16 KB.
+/// U+FFFD. A long text is split across several lines, because graphviz cannot read a line of 16 KB.
 ///
 /// # Errors
 ///

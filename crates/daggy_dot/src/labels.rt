@@ -9,7 +9,7 @@ use std::fmt::{self, Display, Formatter, Write};
 /// Makes the labels of nodes or of edges from their indices and weights.
 ///
 /// To write labels of your own, implement it with [`write_label`], which takes any `Display` value,
-/// such as a text or `format_args!`, and write other attributes with
+/// such as a string or `format_args!`, and write other attributes with
 /// [`write_attribute`](crate::write_attribute).
 ///
 /// # Examples

@@ -24,7 +24,7 @@ use std::alloc::{AllocError, Global};
 use std::fmt::{self, Display, Formatter, Write};
 use std::marker::{Model, PhantomData};
 
-/// A graph that displays itself in the language of graphviz, for the program `dot`, as:
+/// A graph that is displayed in graphviz's language DOT, as:
 ///
 ///     digraph {
 ///         0 [ label = "sow" ]
@@ -323,7 +323,7 @@ where
     }
 
     /// Draws a box, with its name above, around the nodes for which the closure returns the same
-    /// name. Names are compared by what they display.
+    /// name. Names are compared by the text that they display.
     ///
     /// # Requires
     ///

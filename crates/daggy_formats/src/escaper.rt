@@ -8,6 +8,30 @@ use std::fmt::{self, Display, Formatter, Write};
 use std::marker::PhantomData;
 
 /// How each character of a text is escaped.
+///
+/// # Examples
+///
+/// ```
+/// // What is secret is not shown.
+/// struct Secret;
+/// impl Escape for Secret {
+///     ghost use Rattle.std.specs.Prelude.{◌∷◌, []};
+///
+///     ghost escaped_char = { λ c. 42 ∷ [] };
+///
+///     fn write_char<W: fmt::Write>(_c: char, f: &mut fmt::Formatter<W>) -> fmt::Result {
+///         f.write_char('*')
+///     }
+/// }
+/// struct Hidden(&'static str);
+/// impl fmt::Display for Hidden {
+///     fn fmt<W: fmt::Write>(&self, f: &mut fmt::Formatter<W>) -> fmt::Result {
+///         write_escaped::<Secret, _, _>(self.0, f)
+///     }
+/// }
+/// let text = format!(in rt.alloc(); "{}", Hidden("sow"))?;
+/// assert_eq!(rt; text.as_str(), "***");
+/// ```
 pub trait Escape {
     // What is written for a character.
     ghost escaped_char: { ℕ → List ℕ } = { λ c. c ∷ [] };

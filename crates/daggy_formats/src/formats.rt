@@ -114,6 +114,8 @@ pub trait Format {
 ///         0["sow"]
 ///         1["reap"]
 ///         0 -->|"90"| 1
+///
+/// [`mermaid`](crate::mermaid) writes it.
 #[derive(Clone, Copy, Debug)]
 pub struct Mermaid;
 
@@ -172,6 +174,8 @@ impl Format for Mermaid {
 ///     node,weight
 ///     0,"sow"
 ///     1,"reap"
+///
+/// [`node_table`](crate::node_table) writes it.
 #[derive(Clone, Copy, Debug)]
 pub struct NodeTable;
 
@@ -179,6 +183,8 @@ pub struct NodeTable;
 ///
 ///     parent,child,weight
 ///     0,1,"90"
+///
+/// [`edge_table`](crate::edge_table) writes it.
 #[derive(Clone, Copy, Debug)]
 pub struct EdgeTable;
 
@@ -263,8 +269,9 @@ impl Format for EdgeTable {
     }
 }
 
-/// GraphML, which networkx reads. A node's identifier is `n` and its index, and the weights are
-/// texts. A character that XML does not allow, such as a control character, is written as U+FFFD.
+/// GraphML, which networkx reads. A node's identifier is `n` followed by its index, and weights are
+/// written as strings. A character that XML does not allow, such as a control character, is written
+/// as U+FFFD.
 ///
 /// # Examples
 ///

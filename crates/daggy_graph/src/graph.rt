@@ -237,7 +237,7 @@ impl<N, E, Ix: IndexType> DiGraph<N, E, Ix> {
     }
 
     /// The edge after this one in the out list of its parent, or in the in list of its child, or
-    /// `end` if it is the last.
+    /// `end` if this one is the last.
     ///
     /// # Requires
     ///

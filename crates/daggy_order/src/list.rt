@@ -305,8 +305,8 @@ impl<Ix: IndexType> LabeledList<Ix> {
     ///
     /// # Complexity
     ///
-    /// Amortized O(1). If labels reach the end of their range, which takes many million nodes, all
-    /// nodes are relabelled.
+    /// Amortized O(1). If labels reach the end of their range, which takes many millions of nodes,
+    /// all nodes are relabelled.
     #[inline]
     pub fn push(&mut self, n: NodeIndex<Ix>) -> Result<(), AllocError>
         requires real { Ix.number n < Ix.greatest }

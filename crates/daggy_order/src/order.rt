@@ -102,8 +102,8 @@ impl<Ix: IndexType> Order<Ix> {
         }
     }
 
-    /// Whether `a` comes before `b`. In a topological order a path from `a` to `b` can exist only
-    /// if it does.
+    /// Whether `a` comes before `b`. In a topological order, a path from `a` to `b` can exist only
+    /// if `a` comes before `b`.
     ///
     /// # Requires
     ///
@@ -142,8 +142,8 @@ impl<Ix: IndexType> Order<Ix> {
     ///
     /// # Complexity
     ///
-    /// Amortized O(1). If labels reach the end of their range, which takes many million nodes, all
-    /// nodes are relabelled.
+    /// Amortized O(1). If labels reach the end of their range, which takes many millions of nodes,
+    /// all nodes are relabelled.
     #[inline]
     pub fn push(&mut self, n: NodeIndex<Ix>) -> Result<(), AllocError>
         requires real { Ix.number n < Ix.greatest }

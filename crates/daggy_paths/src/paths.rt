@@ -22,7 +22,7 @@ mod descendants;
 ///
 /// It has its own memory for searches, so the graph can be read at the same time, as in a loop over
 /// the neighbors of a node, and several `Paths` can borrow one graph. Making one takes O(nodes), so
-/// use it for many queries.
+/// use one for many queries.
 ///
 /// # Examples
 ///

@@ -118,9 +118,9 @@ pub(crate) fn leave_redundant_by_blocks<Ix: IndexType, S: EdgeSource<Ix>, L: Lis
     collect_flags(flags, bound)
 }
 
-/// The same as [`redundant_edges_in`](crate::bounded::redundant_edges_in), found by rows of bits
-/// for 512 nodes at a time: the row of a node has the bits of the nodes that it reaches in the
-/// block.
+/// The same as [`redundant_edges_in`](crate::bounded::redundant_edges_in), found with rows of bits,
+/// for a block of 512 nodes at a time: the row of a node has the bits of those nodes in the block
+/// that the node reaches.
 ///
 /// # Requires
 ///

@@ -198,8 +198,8 @@ pub(crate) fn leave_redundant_in<Ix: IndexType, S: EdgeSource<Ix>>(
 ///
 /// # Complexity
 ///
-/// One search for each node that the roots reach, which stays before the node's last child in
-/// `order`. Does not allocate.
+/// One search for each node that the roots reach, limited to the nodes before that node's last
+/// child in `order`. Does not allocate.
 ///
 /// # Examples
 ///

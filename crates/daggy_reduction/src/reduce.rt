@@ -48,10 +48,10 @@ pub fn remove_edges<Ix: IndexType, S: Store<Ix>>(store: &mut S, edges: &[EdgeInd
 ///
 /// # Complexity
 ///
-/// One search for each node that the roots reach, which stays before the node's last child in
-/// `order`; or, where that is expected to read more edges, O(nodes * edges / 512) steps of 512 bits
-/// each, and O(edges) of them if each edge leads at most 512 places on in `order`. Then the cost of
-/// the removals.
+/// One search for each node that the roots reach, limited to the nodes before that node's last
+/// child in `order`; or, where that is expected to read more edges, O(nodes * edges / 512) steps of
+/// 512 bits each, and O(edges) of them if each edge leads at most 512 positions ahead in `order`.
+/// Plus the cost of the removals.
 ///
 /// # Examples
 ///

@@ -406,9 +406,9 @@ pub trait GuardedDag<N, E, Ix: IndexType> {
         ensures { Ix.number result
             ≡ first_of Ix.greatest (out_list (graph self.now) (Ix.number n)) };
 
-    /// The child of an edge, and the next edge in the out list of its parent, or `end` if it is the
-    /// last. With [`first_child`](GuardedDag::first_child) it iterates over the children of a node
-    /// without allocating.
+    /// The child of an edge, and the next edge in the out list of its parent, or `end` if the given
+    /// edge is the last. With [`first_child`](GuardedDag::first_child) it iterates over the
+    /// children of a node without allocating.
     ///
     /// # Requires
     ///

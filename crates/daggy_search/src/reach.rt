@@ -19,7 +19,7 @@ use daggy_base::source::EdgeSource;
 /// # Complexity
 ///
 /// O(nodes and edges visited); each edge is read at most once. Memory of the scratch that no search
-/// used before is initialised first. Does not allocate.
+/// has used before is initialised first. Does not allocate.
 ///
 /// # Examples
 ///

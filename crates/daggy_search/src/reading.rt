@@ -49,7 +49,7 @@ impl<'a, Ix: IndexType, S: ReadStore<Ix>> Model for Reading<'a, Ix, S> {
 }
 
 impl<'a, Ix: IndexType, S: ReadStore<Ix>> Reading<'a, Ix, S> {
-    /// A view of `store`, through which no edge was read yet.
+    /// A view of `store`, through which no edge has been read yet.
     pub fn new(store: &'a S) -> Self
         ensures { result ≡ record { graph = S.graph store.now; looks = 0 } }
     {

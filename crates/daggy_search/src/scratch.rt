@@ -9,7 +9,7 @@ use daggy_base::reserved::reserve;
 use std::alloc::{AllocError, Global};
 use std::marker::Model;
 
-/// The memory of searches: a worklist, a list for the edges that a search finds, and, for a search
+/// The memory for searches: a worklist, a list for the edges that a search finds, and, for a search
 /// by blocks of nodes, a row of bits for each node and an array of all edges.
 ///
 /// A search does not allocate: it uses a scratch that [`reserve`](Scratch::reserve) made large
@@ -120,7 +120,8 @@ impl<Ix: IndexType> Scratch<Ix> {
     ///
     /// # Errors
     ///
-    /// Returns `AllocError` if an allocation fails. Graphs that it fitted before still fit.
+    /// Returns `AllocError` if an allocation fails. The scratch still has room for every graph for
+    /// which it had room before.
     ///
     /// # Complexity
     ///
@@ -161,7 +162,8 @@ impl<Ix: IndexType> Scratch<Ix> {
     ///
     /// # Errors
     ///
-    /// Returns `AllocError` if an allocation fails. Graphs that it fitted before still fit.
+    /// Returns `AllocError` if an allocation fails. The scratch still has room for every graph for
+    /// which it had room before.
     ///
     /// # Complexity
     ///

@@ -22,13 +22,14 @@ use std::marker::Model;
 /// comes earlier.
 ///
 /// It does not borrow the graph; each step borrows it for that step. Until the walk ends, no node
-/// and no edge may be added or removed. Weights may be written: what the next call requires still
-/// holds then, by the lemmas in `proofs/Reweighed.antt`. [`iter`](Walker::iter) turns it into an
-/// iterator, which borrows the graph.
+/// and no edge may be added or removed. Weights may be written: by the lemmas in
+/// `proofs/Reweighed.antt`, what the next call requires still holds afterwards.
+/// [`iter`](Walker::iter) turns it into an iterator, which borrows the graph.
 ///
-/// For proofs: [`next`](Bfs::next) requires that no node or edge was added or removed since
-/// [`new`](Bfs::new), and guarantees it to the next call. A struct that has both the graph and this
-/// walk states it once, as a field `ghost under_way: { IsBreadthFirst (S.graph graph.now) walk }`.
+/// For proofs: [`next`](Bfs::next) requires that no node or edge has been added or removed since
+/// [`new`](Bfs::new), and ensures that this still holds at the next call. A struct that has both
+/// the graph and this walk states this once, as a field `ghost under_way: { IsBreadthFirst (S.graph
+/// graph.now) walk }`.
 ///
 /// # Complexity
 ///
@@ -122,7 +123,7 @@ impl<Ix: IndexType> Bfs<Ix> {
     /// Returns the next node, or `None` if no reachable node is left.
     ///
     /// The start comes first. The neighbors of a node come in the order of its list, after the
-    /// neighbors of each node that came before it.
+    /// neighbors of each node that came before that node.
     ///
     /// # Requires
     ///

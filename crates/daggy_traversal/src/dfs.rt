@@ -24,13 +24,14 @@ use std::marker::Model;
 /// that are reached through it.
 ///
 /// It does not borrow the graph; each step borrows it for that step. Until the walk ends, no node
-/// and no edge may be added or removed. Weights may be written: what the next call requires still
-/// holds then, by the lemmas in `proofs/Reweighed.antt`. [`iter`](Walker::iter) turns it into an
-/// iterator, which borrows the graph.
+/// and no edge may be added or removed. Weights may be written: by the lemmas in
+/// `proofs/Reweighed.antt`, what the next call requires still holds afterwards.
+/// [`iter`](Walker::iter) turns it into an iterator, which borrows the graph.
 ///
-/// For proofs: [`next`](Dfs::next) requires that no node or edge was added or removed since
-/// [`new`](Dfs::new), and guarantees it to the next call. A struct that has both the graph and this
-/// walk states it once, as a field `ghost under_way: { IsDepthFirst (S.graph graph.now) walk }`.
+/// For proofs: [`next`](Dfs::next) requires that no node or edge has been added or removed since
+/// [`new`](Dfs::new), and ensures that this still holds at the next call. A struct that has both
+/// the graph and this walk states this once, as a field `ghost under_way: { IsDepthFirst (S.graph
+/// graph.now) walk }`.
 ///
 /// # Complexity
 ///

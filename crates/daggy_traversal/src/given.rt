@@ -4,8 +4,8 @@ ghost use Rattle.std.specs.Borrow.{ftrue};
 
 use std::marker::Model;
 
-/// The nodes that a walk has yielded, in order. It exists only in proofs: no bytes, and its methods
-/// do nothing at run time.
+/// The nodes that a walk has yielded, in order. It exists only in proofs: it takes no bytes, and
+/// its methods do nothing at run time.
 #[derive(Drop)]
 pub struct Given {
     pub ghost nodes: { List ℕ },

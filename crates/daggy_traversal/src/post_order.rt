@@ -23,14 +23,14 @@ use std::marker::Model;
 /// neighbors, except for neighbors that lead back to it.
 ///
 /// It does not borrow the graph; each step borrows it for that step. Until the walk ends, no node
-/// and no edge may be added or removed. Weights may be written: what the next call requires still
-/// holds then, by the lemmas in `proofs/Reweighed.antt`. [`iter`](Walker::iter) turns it into an
-/// iterator, which borrows the graph.
+/// and no edge may be added or removed. Weights may be written: by the lemmas in
+/// `proofs/Reweighed.antt`, what the next call requires still holds afterwards.
+/// [`iter`](Walker::iter) turns it into an iterator, which borrows the graph.
 ///
-/// For proofs: [`next`](DfsPostOrder::next) requires that no node or edge was added or removed
-/// since [`new`](DfsPostOrder::new), and guarantees it to the next call. A struct that has both the
-/// graph and this walk states it once, as a field
-/// `ghost under_way: { IsPostorder (S.graph graph.now) walk }`.
+/// For proofs: [`next`](DfsPostOrder::next) requires that no node or edge has been added or removed
+/// since [`new`](DfsPostOrder::new), and ensures that this still holds at the next call. A struct
+/// that has both the graph and this walk states this once, as a field `ghost under_way: {
+/// IsPostorder (S.graph graph.now) walk }`.
 ///
 /// # Complexity
 ///
@@ -134,9 +134,9 @@ impl<Ix: IndexType> DfsPostOrder<Ix> {
 
     /// Returns the next node, or `None` if no reachable node is left.
     ///
-    /// The walk goes down from neighbor to neighbor, each time to the first new one in the order of
-    /// the list, until a node has none. It returns that node, and goes back up. The start comes
-    /// last.
+    /// The walk goes down from neighbor to neighbor, each time to the first new neighbor in the
+    /// order of the list, until a node has no new neighbor. It returns that node, and goes back up.
+    /// The start comes last.
     ///
     /// # Requires
     ///

@@ -5,7 +5,7 @@
 //! bound of their indices. [`Visitable`] makes sets of nodes, and [`GetAdjacencyMatrix`] the
 //! adjacency matrix.
 //!
-//! The traits are specified against the list model of a graph.
+//! The contracts of these traits describe a graph by its lists of edges.
 mod adj_matrix;
 mod data;
 mod indexed;

@@ -26,8 +26,8 @@ fn reduced_shape<N: Drop, E: Drop, Ix: IndexType>(
 
 /// Whether two dags have the same number of nodes and the same reachability relation.
 ///
-/// It reduces a copy of each dag, without weights, from all nodes, and compares which nodes are
-/// adjacent afterwards. Both dags are unchanged.
+/// It copies each dag without its weights, reduces the copies from all nodes, and compares which
+/// nodes are then adjacent. Both dags are unchanged.
 ///
 /// # Errors
 ///

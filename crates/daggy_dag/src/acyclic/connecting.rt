@@ -12,7 +12,8 @@ use std::fmt;
 use std::iter::FusedIterator;
 use std::marker::{Model, PhantomData};
 
-/// The edges from one node to another, newest first.
+/// The edges from one node to another, newest first, as
+/// [`edges_connecting`](Acyclic::edges_connecting) returns them.
 ///
 /// # Complexity
 ///

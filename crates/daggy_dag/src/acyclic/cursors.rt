@@ -13,7 +13,8 @@ use daggy_base::source::EdgeSource;
 use daggy_base::store::Store;
 use daggy_graph::graph::DiGraph;
 
-/// Mutable references to the weights of the nodes, one at a time, in ascending index order.
+/// Mutable references to the weights of the nodes, one at a time, in ascending index order, as
+/// [`node_weights_mut`](Acyclic::node_weights_mut) returns them.
 ///
 /// A lending cursor, not an `Iterator`: each reference must end before the next call. Use it as
 /// `while let Some(weight) = weights.next()`.
@@ -29,7 +30,8 @@ pub struct NodeWeightsMut<
     index: usize,
 }
 
-/// Mutable references to the weights of the edges, one at a time, in ascending index order.
+/// Mutable references to the weights of the edges, one at a time, in ascending index order, as
+/// [`edge_weights_mut`](Acyclic::edge_weights_mut) returns them.
 ///
 /// A lending cursor, not an `Iterator`: each reference must end before the next call. Use it as
 /// `while let Some(weight) = weights.next()`.

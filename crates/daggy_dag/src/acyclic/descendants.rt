@@ -29,7 +29,7 @@ where
     /// # Complexity
     ///
     /// O(k log k + edges) for k nodes found and the edges that leave them. The first search after
-    /// nodes were added also takes O(node bound).
+    /// nodes have been added also takes O(node bound).
     ///
     /// # Examples
     ///

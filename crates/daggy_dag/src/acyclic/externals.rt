@@ -11,7 +11,8 @@ use std::fmt;
 use std::iter::FusedIterator;
 use std::marker::{Model, PhantomData};
 
-/// The nodes that have no edge in one direction, in ascending index order.
+/// The nodes that have no edge in one direction, in ascending index order, as
+/// [`externals`](Acyclic::externals) returns them.
 ///
 /// # Complexity
 ///

@@ -13,7 +13,7 @@ use daggy_search::Scratch;
 use std::alloc::Global;
 use std::{error, fmt};
 
-/// Making a dag of a graph failed. The error holds the graph, which is unchanged.
+/// Converting a graph into a dag failed. The error holds the graph, which is unchanged.
 ///
 /// # Examples
 ///
@@ -79,7 +79,7 @@ impl<N: Drop, E: Drop, Ix: IndexType, S> Acyclic<N, E, Ix, S>
 where
     S: Store<Ix, NodeWeight = N, EdgeWeight = E>,
 {
-    /// Makes a dag of a graph that has no cycle. Indices, weights and lists are unchanged.
+    /// Converts a graph that has no cycle into a dag. Indices, weights and lists are unchanged.
     ///
     /// [`into_graph`](Acyclic::into_graph) is the reverse.
     ///

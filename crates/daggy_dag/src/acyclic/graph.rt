@@ -16,7 +16,7 @@ impl<N: Drop, E: Drop, Ix: IndexType, S> Acyclic<N, E, Ix, S>
 where
     S: ReadStore<Ix, NodeWeight = N, EdgeWeight = E>,
 {
-    /// A shared reference to the graph inside, which cannot be changed through it. It is for the
+    /// A shared reference to the graph inside, which cannot be changed through it. Use it for the
     /// methods of the graph, for the traits of `visit`, and for searches and traversals that take
     /// any graph.
     ///

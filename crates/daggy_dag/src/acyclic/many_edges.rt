@@ -26,11 +26,11 @@ where
     /// [`add_edge`](Acyclic::add_edge); the update itself never fails. After the first edge that
     /// closes a cycle the order is no longer updated.
     ///
-    /// Searches for each edge are avoided if they would cost too much: if an edge needs a search,
-    /// and either the batch is large compared with the dag, or the searches so far have read as
-    /// many edges as the dag had nodes or edges before. Then all nodes are sorted once at the end
-    /// instead, by Kahn's algorithm (1962), or by a depth-first search if an allocation for that
-    /// fails.
+    /// The dag is not searched for each edge if that would cost too much: when an edge needs a
+    /// search, and either the batch is large compared with the dag, or earlier searches have read
+    /// as many edges as the dag had nodes, or as it had edges, before the call. Then all nodes are
+    /// sorted once at the end instead, by Kahn's algorithm (1962), or by a depth-first search if an
+    /// allocation for that fails.
     ///
     /// # Requires
     ///

@@ -140,8 +140,8 @@ where
         true
     }
 
-    /// Replaces the edges that enter `n`, all of them or none: afterwards one edge enters `n` for
-    /// each item, from the parent and with the weight of the item. The new edges are added in the
+    /// Replaces the edges that enter `n`, all of them or none: afterwards, for each item, one edge
+    /// with the item's weight enters `n` from the item's parent. The new edges are added in the
     /// order of the items, as by [`add_edge`](Acyclic::add_edge); then the old edges are removed
     /// from the highest index down, each as by [`remove_edge`](Acyclic::remove_edge), and their
     /// weights are dropped.

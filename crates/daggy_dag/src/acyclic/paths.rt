@@ -54,13 +54,14 @@ where
     /// Whether a path leads from `a` to `b`. A single node is a path, so an existing node reaches
     /// itself; a missing node reaches nothing.
     ///
-    /// The graph is unchanged; the call needs `&mut self` because it searches in memory of the dag.
+    /// The graph is unchanged; the call needs `&mut self` because it uses the dag's memory for
+    /// searches.
     ///
     /// # Complexity
     ///
     /// O(1) if `b` precedes `a` in the dag's order. Otherwise a search of the nodes reachable from
-    /// `a` that precede `b` in the order. The first search after nodes were added also takes O(node
-    /// bound). Does not allocate.
+    /// `a` that precede `b` in the order. The first search after nodes have been added also takes
+    /// O(node bound). Does not allocate.
     ///
     /// # Examples
     ///

@@ -17,7 +17,7 @@ where
     S: Store<Ix, NodeWeight = N, EdgeWeight = E>,
 {
     /// Gives each node the weight that `f` returns for it, parents before children. `f` is called
-    /// with the graph and the node, after the parents of the node have got their new weights.
+    /// with the graph and the node, after the parents of the node have received their new weights.
     ///
     /// # Requires
     ///
@@ -66,7 +66,7 @@ where
     ///
     /// # Errors
     ///
-    /// Returns the first error that `f` returns. The nodes before the one that failed then have
+    /// Returns the first error that `f` returns. Then the nodes before the one that failed have
     /// their new weights, and the others are unchanged.
     ///
     /// # Complexity

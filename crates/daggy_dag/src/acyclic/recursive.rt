@@ -7,7 +7,8 @@ use daggy_base::index::{IndexType, NodeIndex};
 use daggy_base::read_store::ReadStore;
 use daggy_walk::walker::{Led, Recursive};
 
-/// A walk over a [`Dag`] along edges that a function chooses.
+/// A walk over a [`Dag`] along edges that a function chooses, as
+/// [`recursive_walk`](Acyclic::recursive_walk) returns it.
 pub type RecursiveWalk<N, E, Ix, F> = Recursive<Dag<N, E, Ix>, F>;
 
 impl<N: Drop, E: Drop, Ix: IndexType, S> Acyclic<N, E, Ix, S>

@@ -39,8 +39,8 @@ where
 {
     /// Removes the edges that are redundant below `roots`. An edge is redundant below them if one
     /// of the roots reaches its parent, and its parent reaches its child by another path of two or
-    /// more edges. Reachability is unchanged. From roots that reach all nodes it is the transitive
-    /// reduction of the dag (Aho, Garey and Ullman 1972), but for parallel edges.
+    /// more edges. Reachability is unchanged. If the roots reach all nodes, the result is the
+    /// transitive reduction of the dag (Aho, Garey and Ullman 1972), except for parallel edges.
     ///
     /// A parallel edge is not such a path, so the edges from one node to another are either all
     /// removed or all kept. Missing roots are ignored. The edges are removed from the highest index
@@ -52,11 +52,11 @@ where
     ///
     /// # Complexity
     ///
-    /// One search for each node that the roots reach, which stays before the node's last child in
-    /// the dag's order; or, where that is expected to read more edges, O(nodes * edges / 512) steps
-    /// of 512 bits each, and O(edges) of them if each edge leads at most 512 places on in that
-    /// order, with 80 bytes of memory for each node and, with `u32` indices, 12 bytes for each
-    /// edge; the dag keeps this memory. Then the cost of the removals.
+    /// One search for each node that the roots reach, limited to the nodes before that node's last
+    /// child in the dag's order; or, where that is expected to read more edges, O(nodes * edges /
+    /// 512) steps of 512 bits each, and O(edges) of them if each edge leads at most 512 positions
+    /// ahead in that order, with 80 bytes of memory for each node and, with `u32` indices, 12 bytes
+    /// for each edge; the dag keeps this memory. Plus the cost of the removals.
     ///
     /// # Examples
     ///

@@ -123,13 +123,13 @@ where
         self.add_edge(a, b, weight)
     }
 
-    /// Replaces the weight of an edge, or adds one, as [`update_edge`](Acyclic::update_edge) does,
-    /// if both endpoints exist and, for an edge that has to be added, there is an index left.
+    /// Replaces the weight of an edge, or adds an edge, as [`update_edge`](Acyclic::update_edge)
+    /// does, if both endpoints exist and, for an edge that has to be added, there is an index left.
     ///
     /// # Errors
     ///
-    /// The same as [`try_add_edge`](Acyclic::try_add_edge). If an edge leads from `a` to `b`
-    /// already, the call cannot fail.
+    /// The same as [`try_add_edge`](Acyclic::try_add_edge). If an edge already leads from `a` to
+    /// `b`, the call cannot fail.
     ///
     /// # Complexity
     ///

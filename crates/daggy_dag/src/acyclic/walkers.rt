@@ -17,8 +17,8 @@ use std::marker::{Model, PhantomData};
 
 /// A walker over the children of a node. It yields each edge with its child.
 ///
-/// It does not borrow the dag. If the edge that comes next was removed, it yields nothing from then
-/// on, unless an edge gets that index again.
+/// It does not borrow the dag. If the next edge has been removed, the walker yields nothing from
+/// then on, unless an edge gets that index again.
 ///
 /// # Examples
 ///
@@ -107,8 +107,8 @@ where
 
 /// A walker over the parents of a node. It yields each edge with its parent.
 ///
-/// It does not borrow the dag. If the edge that comes next was removed, it yields nothing from then
-/// on, unless an edge gets that index again.
+/// It does not borrow the dag. If the next edge has been removed, the walker yields nothing from
+/// then on, unless an edge gets that index again.
 ///
 /// # Examples
 ///

@@ -79,6 +79,14 @@ where
 
     ghost index_gives = { λ d n w. weight_at d.graph (Ix.number n) ≡ Some w };
 
+    /// # Examples
+    ///
+    /// ```
+    /// let mut dag: Dag<u32, u32> = Dag::new(rt.alloc());
+    /// let n = dag.add_node(3)?;
+    /// dag[n] = 4;
+    /// assert!(rt; dag[n] == 4);
+    /// ```
     #[inline]
     fn index(&self, n: NodeIndex<Ix>) -> &N {
         self.guarded.store.node_weight(n).unwrap()
@@ -95,6 +103,15 @@ where
 
     ghost index_gives = { λ d e w. edge_weight_at d.graph (Ix.number e) ≡ Some w };
 
+    /// # Examples
+    ///
+    /// ```
+    /// let mut dag: Dag<&'static str, u32> = Dag::new(rt.alloc());
+    /// let sow = dag.add_node("sow")?;
+    /// let (days, _reap) = dag.add_child(sow, 90, "reap")?;
+    /// dag[days] = 80;
+    /// assert!(rt; dag[days] == 80);
+    /// ```
     #[inline]
     fn index(&self, e: EdgeIndex<Ix>) -> &E {
         self.guarded.store.edge_weight(e).unwrap()

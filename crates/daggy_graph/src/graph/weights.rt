@@ -119,6 +119,14 @@ impl<N, E, Ix: IndexType> Index<NodeIndex<Ix>> for DiGraph<N, E, Ix> {
 
     ghost index_gives = { λ s n w. weight_at s.graph (Ix.number n) ≡ Some w };
 
+    /// # Examples
+    ///
+    /// ```
+    /// let mut graph: DiGraph<u32, u32> = DiGraph::new(rt.alloc());
+    /// let n = graph.add_node(3)?;
+    /// graph[n] = 4;
+    /// assert!(rt; graph[n] == 4);
+    /// ```
     #[inline]
     fn index(&self, n: NodeIndex<Ix>) -> &N {
         self.node_weight(n).unwrap()
@@ -133,6 +141,15 @@ impl<N, E, Ix: IndexType> Index<EdgeIndex<Ix>> for DiGraph<N, E, Ix> {
     ghost index_gives = { λ s e w.
         option_map (λ x. x.weight) (edge_at s.graph (Ix.number e)) ≡ Some w };
 
+    /// # Examples
+    ///
+    /// ```
+    /// let mut graph: DiGraph<u32, u32> = DiGraph::new(rt.alloc());
+    /// let n = graph.add_node(3)?;
+    /// let e = graph.add_edge(n, n, 5)?;
+    /// graph[e] = 6;
+    /// assert!(rt; graph[e] == 6);
+    /// ```
     #[inline]
     fn index(&self, e: EdgeIndex<Ix>) -> &E {
         self.edge_weight(e).unwrap()

@@ -8,8 +8,8 @@ use daggy_base::index::{IndexType, NodeIndex};
 use daggy_base::link::Link;
 
 impl<Ix: IndexType> Order<Ix> {
-    /// Renames each node to its new index in `names`, and removes the nodes without one. The others
-    /// stay in the same order.
+    /// Gives each node the new index that `names` has for it, and removes the nodes for which it
+    /// has `None`. The others stay in the same order.
     ///
     /// # Requires
     ///
@@ -21,6 +21,21 @@ impl<Ix: IndexType> Order<Ix> {
     /// # Complexity
     ///
     /// O(length of `names`). Does not allocate.
+    ///
+    /// # Examples
+    ///
+    /// ```
+    /// let mut order: Order = Order::new(rt.alloc());
+    /// let reap = NodeIndex::new(0);
+    /// let sow = NodeIndex::new(2);
+    /// order.push(sow)?;
+    /// order.push(reap)?;
+    /// // There is no node 1 any more, so node 2 gets its index.
+    /// let names = [Some(Link::new(0)), None, Some(Link::new(1))];
+    /// order.rename_all(&names);
+    /// assert!(rt; order.at(0) == NodeIndex::new(1));
+    /// assert!(rt; order.at(1) == reap);
+    /// ```
     pub fn rename_all(&mut self, names: &[Option<Link<Ix>>])
         requires few { length names.now ≤ Ix.greatest }
         requires covered { (n : ℕ) → Contains self.old n → n < length names.now }

@@ -127,11 +127,11 @@ impl<N, E, Ix: IndexType> StableDiGraph<N, E, Ix> {
     ///
     /// - `nodes`: `f` may be called with each node and its weight, in ascending index order.
     /// - `edges`: `g` may be called with the edges that are kept and their weights, in ascending
-    ///   index order, whichever edges these are.
+    ///   index order, no matter which edges these are.
     ///
     /// # Errors
     ///
-    /// Returns `AllocError` if an allocation fails; then no closure was called.
+    /// Returns `AllocError` if an allocation fails; in that case no closure has been called.
     ///
     /// # Complexity
     ///

@@ -19,6 +19,15 @@ impl<N, E, Ix: IndexType> StableDiGraph<N, E, Ix> {
     /// # Complexity
     ///
     /// O(1). Does not allocate.
+    ///
+    /// # Examples
+    ///
+    /// ```
+    /// let nodes = Vec::new(rt.alloc());
+    /// let edges = Vec::new(rt.alloc());
+    /// let graph: StableDiGraph<&'static str, u32> = StableDiGraph::from_cells(nodes, edges);
+    /// assert!(rt; graph.node_count() == 0);
+    /// ```
     pub fn from_cells(nodes: Vec<Node<Option<N>, Ix>>, edges: Vec<Edge<Option<E>, Ix>>) -> Self
         requires { (graph : Graph N E) × HoldsGraph Ix.greatest nodes.items edges.items graph }
         ensures { (graph : Graph N E) → HoldsGraph Ix.greatest nodes.items edges.items graph

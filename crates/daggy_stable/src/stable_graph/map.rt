@@ -81,7 +81,7 @@ impl<N, E, Ix: IndexType> StableDiGraph<N, E, Ix> {
     ///
     /// # Errors
     ///
-    /// Returns `AllocError` if an allocation fails; then no closure was called.
+    /// Returns `AllocError` if an allocation fails; in that case no closure has been called.
     ///
     /// # Complexity
     ///

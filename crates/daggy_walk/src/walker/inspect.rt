@@ -4,7 +4,7 @@ ghost use Rattle.daggy_walk.specs.Parts.{inspect_walker, inspect_function};
 
 use crate::walker::{FiniteWalker, FusedWalker, Walker};
 
-/// A walk that shows each item to a function before it yields it.
+/// A walk that shows each item to a function before yielding it.
 ///
 /// # Examples
 ///

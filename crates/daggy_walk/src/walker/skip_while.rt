@@ -7,7 +7,7 @@ use std::marker::PhantomData;
 
 /// The items of a walk, beginning with the first for which a predicate returns false.
 ///
-/// The predicate is called only in the first step, and dropped then.
+/// The predicate is called only in the first step, and is then dropped.
 ///
 /// # Examples
 ///

@@ -7,7 +7,8 @@ use std::marker::PhantomData;
 
 /// The items of a walk before the first for which a predicate returns false.
 ///
-/// The walker is dropped then. If it merely yields nothing it is kept, and the walk may continue.
+/// The walker is dropped then. If the walker merely yields nothing, it is kept, and the walk may
+/// continue.
 ///
 /// # Examples
 ///

@@ -203,8 +203,8 @@ impl<N: Drop, E: Drop, Ix: IndexType> Acyclic<N, E, Ix, DiGraph<N, E, Ix>> {
     ///
     /// # Errors
     ///
-    /// Returns `AllocError` if a reallocation fails; that buffer keeps its size, and the dag is
-    /// unchanged.
+    /// Returns `AllocError` if a reallocation fails; the list that was to be shrunk keeps its
+    /// capacity, and the dag is unchanged.
     ///
     /// # Complexity
     ///

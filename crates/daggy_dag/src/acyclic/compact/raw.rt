@@ -5,10 +5,12 @@ use crate::acyclic::Acyclic;
 use daggy_base::index::IndexType;
 use daggy_graph::graph::{DiGraph, Edge, Node};
 
-/// The nodes of a dag as they are stored, by index.
+/// The nodes of a dag as they are stored, by index, as [`raw_nodes`](Acyclic::raw_nodes) returns
+/// them.
 pub type RawNodes<'a, N, Ix> = &'a [Node<N, Ix>];
 
-/// The edges of a dag as they are stored, by index.
+/// The edges of a dag as they are stored, by index, as [`raw_edges`](Acyclic::raw_edges) returns
+/// them.
 pub type RawEdges<'a, E, Ix> = &'a [Edge<E, Ix>];
 
 impl<N: Drop, E: Drop, Ix: IndexType> Acyclic<N, E, Ix, DiGraph<N, E, Ix>> {
