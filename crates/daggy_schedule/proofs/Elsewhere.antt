@@ -1,10 +1,14 @@
--- Lists by node index that have 0 where there is no node.
-use Rattle.std.proofs.Common.{◌≡◌, ℕ, inl, inr, List, get_or, set, replicate, sym, ap, subst, ◌∙◌}
+-- Lists by index that have 0 where there is no node, or no edge.
+use Rattle.std.proofs.Common.{◌≡◌, ℕ, inl, inr, Option, Some, None, is_some, List, get_or, set, replicate, refl, sym, ap, subst}
+use Rattle.std.proofs.Common.{◌∙◌}
+use Rattle.std.specs.Option.{option_map}
 use Rattle.std.proofs.lemmas.Bool.{cases_eq}
 use Rattle.std.proofs.lemmas.List.{get_or-set_other}
-use Rattle.daggy_base.specs.Graph.{Graph, HasNode}
+use Rattle.daggy_base.specs.Graph.{Graph, Edge, HasNode, HasEdge, edge_at}
+use Rattle.daggy_base.specs.Weights.{edge_weight}
 use Rattle.daggy_base.specs.WellFormed.{IsWellFormed}
 use Rattle.daggy_schedule.specs.Times.{IsZeroElsewhere}
+use Rattle.daggy_schedule.specs.Lags.{IsZeroWithoutEdge}
 use Rattle.daggy_schedule.specs.Passes.{AreDelayed}
 use Rattle.daggy_schedule.proofs.Starting.{all_zero}
 
@@ -21,9 +25,29 @@ module _ {N E : Type 0} (g : Graph N E) where
         | inr other ↦ ap (λ z. get_or z m 0) is ∙ (get_or-set_other old n m value 0 other ∙ before m none)
       ]
 
+  pub no_lags : (list : List ℕ) (size : ℕ) → list ≡ replicate size 0 → IsZeroWithoutEdge g list
+  no_lags list size is e none = ap (λ z. get_or z e 0) is ∙ all_zero size e
+
+  -- what has a weight is an edge
+  pub edge_weighed : (e : ℕ) (w : E) → edge_weight g e ≡ Some w → HasEdge g e
+  edge_weighed e w has = sym (weighed (edge_at g e)) ∙ ap is_some has
+    where
+      weighed : (x : Option (Edge E)) → is_some (option_map (λ y. y.weight) x) ≡ is_some x
+      weighed None = refl
+      weighed (Some x) = refl
+
+  -- the lag of an edge is written
+  pub set_lag : (old new : List ℕ) (e value : ℕ) → HasEdge g e → IsZeroWithoutEdge g old → new ≡ set old e value
+      → IsZeroWithoutEdge g new
+  set_lag old new e value exists before is m none =
+      elim (cases_eq m e) [
+        | inl same ↦ (let H : ℕ → Type 0 = λ z. HasEdge g z in absurd (none (subst H (sym same) exists)))
+        | inr other ↦ ap (λ z. get_or z m 0) is ∙ (get_or-set_other old e m value 0 other ∙ before m none)
+      ]
+
   -- the children of a node are put off
-  pub delayed_elsewhere : {end n finish : ℕ} {starts parents starts' parents' : List ℕ} → IsWellFormed end g
-      → AreDelayed g n finish starts parents starts' parents' → IsZeroElsewhere g starts → IsZeroElsewhere g starts'
+  pub delayed_elsewhere : {end n finish : ℕ} {lags starts parents starts' parents' : List ℕ} → IsWellFormed end g
+      → AreDelayed g n finish lags starts parents starts' parents' → IsZeroElsewhere g starts → IsZeroElsewhere g starts'
   delayed_elsewhere w delayed before v none =
       elim (delayed.noted v) [
         | inl same ↦ same.0 ∙ before v none

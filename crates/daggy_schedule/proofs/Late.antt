@@ -12,39 +12,47 @@ use Rattle.daggy_base.specs.WellFormed.{IsWellFormed, AreDistinct}
 use Rattle.daggy_base.proofs.Lists.{Mem, Unique, mem_cases, mem_mid, mem_contains, contains_mem, unique_from_distinct}
 use Rattle.daggy_base.proofs.Lists.{unique_right}
 use Rattle.daggy_base.proofs.Sorted.{place_left, place_right, place_same, unique_cross}
-use Rattle.daggy_schedule.specs.Times.{AreFeasible, AreDoneBy, AreLatest}
+use Rattle.daggy_schedule.specs.Times.{AreDoneBy}
+use Rattle.daggy_schedule.specs.Lags.{AreFeasibleWithLags, AreLatestWithLags}
 use Rattle.daggy_schedule.specs.Passes.{IsLatestFinish, later_by}
-use Rattle.daggy_schedule.proofs.Passing.{Passing, passing_from, passing_on, passed_joined, all_passed}
+use Rattle.daggy_schedule.proofs.Passing.{Passing, passing_from, passing_on, passed_edge, all_passed}
 
 -- ---- the latest finish of one node
 
-pub record Lowering {N E : Type 0} (end : ℕ) (g : Graph N E) (n : ℕ) (start : ℕ → ℕ) (makespan e latest : ℕ) : Type 0 where
-  pub passing : Passing end g n e (λ v. latest ≤ start v)
+pub record Lowering {N E : Type 0} (end : ℕ) (g : Graph N E) (n : ℕ) (lags : List ℕ) (start : ℕ → ℕ) (makespan e latest : ℕ)
+    : Type 0 where
+  pub passing : Passing end g n e (λ k v. latest + get_or lags k 0 ≤ start v)
   pub most : latest ≤ makespan
-  pub met : (latest ≡ makespan) ⊎ ((v : ℕ) × AreJoined g n v × (latest ≡ start v))
+  pub met : (latest ≡ makespan) ⊎ ((v : ℕ) × (edge : AreJoined g n v) × (latest + get_or lags edge.0 0 ≡ start v))
 
-pub lowers_none : {N E : Type 0} {end : ℕ} {g : Graph N E} {n : ℕ} (start : ℕ → ℕ) (makespan : ℕ) {e : ℕ}
-    → e ≡ first_of end (out_list g n) → Lowering end g n start makespan e makespan
-lowers_none start makespan first =
-    record { passing = passing_from (λ v. makespan ≤ start v) first; most = omega arith; met = inl refl }
+pub lowers_none : {N E : Type 0} {end : ℕ} {g : Graph N E} {n : ℕ} (lags : List ℕ) (start : ℕ → ℕ) (makespan : ℕ) {e : ℕ}
+    → e ≡ first_of end (out_list g n) → Lowering end g n lags start makespan e makespan
+lowers_none lags start makespan first =
+    record {
+      passing = passing_from (λ k v. makespan + get_or lags k 0 ≤ start v) first;
+      most = omega arith;
+      met = inl refl;
+    }
 
-module _ {N E : Type 0} {end : ℕ} {g : Graph N E} (w : IsWellFormed end g) {n : ℕ} {start : ℕ → ℕ}
-    {makespan e latest : ℕ} (s : Lowering end g n start makespan e latest) where
+module _ {N E : Type 0} {end : ℕ} {g : Graph N E} (w : IsWellFormed end g) {n : ℕ} {lags : List ℕ} {start : ℕ → ℕ}
+    {makespan e latest : ℕ} (s : Lowering end g n lags start makespan e latest) where
   pub lowers_one : (e ≢ end) → {p c : ℕ} → Some (p, c) ≡ option_map ends_of (edge_at g e) → (next : ℕ)
-      → next ≡ cursor_after Outgoing end g e (edge_at g e) → (least : ℕ) → least ≤ latest → least ≤ start c
-      → (least ≡ latest) ⊎ (least ≡ start c) → Lowering end g n start makespan next least
+      → next ≡ cursor_after Outgoing end g e (edge_at g e) → (least : ℕ) → least ≤ latest
+      → least + get_or lags e 0 ≤ start c → (least ≡ latest) ⊎ (least + get_or lags e 0 ≡ start c)
+      → Lowering end g n lags start makespan next least
   lowers_one here {p} {c} ends next is least low_latest low_child one =
       record {
         passing =
-            passing_on w s.passing here ends next is (λ v. least ≤ start v) (λ v h. omega (arith, h, low_latest)) low_child;
+            passing_on w s.passing here ends next is (λ k v. least + get_or lags k 0 ≤ start v)
+            (λ k v h. omega (arith, h, low_latest)) low_child;
         most = omega (arith, s.most, low_latest);
         met = elim one [
-          | inl same ↦ elim s.met [ inl a ↦ inl (same ∙ a) | inr b ↦ inr (b.0, b.1, same ∙ b.2) ]
-          | inr child ↦ inr (c, passed_joined w s.passing here ends, child)
+          | inl same ↦ elim s.met [ inl a ↦ inl (same ∙ a) | inr b ↦ inr (b.0, b.1, omega (arith, same, b.2)) ]
+          | inr child ↦ (let edge = passed_edge w s.passing here ends in inr (c, (e, edge.0, edge.1), child))
         ];
       }
 
-  pub all_lowered : e ≡ end → IsLatestFinish g n start makespan latest
+  pub all_lowered : e ≡ end → IsLatestFinish g n lags start makespan latest
   all_lowered ended = record { most = s.most; below = all_passed w s.passing ended; met = s.met }
 
 -- ---- all nodes
@@ -56,17 +64,17 @@ drop_past (suc k) [] le = refl
 drop_past (suc k) (x ∷ xs) le = drop_past k xs (omega (arith, le))
 
 -- the nodes of `behind` can start no later than this
-pub record Slackening {N E : Type 0} (g : Graph N E) (d : List ℕ) (start : ℕ → ℕ) (makespan : ℕ) (behind : List ℕ)
+pub record Slackening {N E : Type 0} (g : Graph N E) (d lags : List ℕ) (start : ℕ → ℕ) (makespan : ℕ) (behind : List ℕ)
     : Type 0 where
   pub met : (u : ℕ) → Mem u behind → start u + get_or d u 0 ≤ makespan
-  pub feasible : (u v : ℕ) → Mem u behind → AreJoined g u v → start u + get_or d u 0 ≤ start v
-  pub greatest : (other : ℕ → ℕ) → AreFeasible g d other → AreDoneBy g d other makespan
+  pub feasible : (u v : ℕ) → Mem u behind → (j : AreJoined g u v) → start u + get_or d u 0 + get_or lags j.0 0 ≤ start v
+  pub greatest : (other : ℕ → ℕ) → AreFeasibleWithLags g d lags other → AreDoneBy g d other makespan
       → (u : ℕ) → Mem u behind → other u ≤ start u
 
-pub slack_none : {N E : Type 0} (g : Graph N E) (d : List ℕ) (start : ℕ → ℕ) (makespan : ℕ) {behind : List ℕ}
-    → behind ≡ [] → Slackening g d start makespan behind
-slack_none g d start makespan none =
-    let P : List ℕ → Type 0 = λ z. Slackening g d start makespan z in
+pub slack_none : {N E : Type 0} (g : Graph N E) (d lags : List ℕ) (start : ℕ → ℕ) (makespan : ℕ) {behind : List ℕ}
+    → behind ≡ [] → Slackening g d lags start makespan behind
+slack_none g d lags start makespan none =
+    let P : List ℕ → Type 0 = λ z. Slackening g d lags start makespan z in
     subst P (sym none) (record {
       met = λ u m. absurd m;
       feasible = λ u v m. absurd m;
@@ -120,13 +128,13 @@ module _ {N E : Type 0} {end : ℕ} {g : Graph N E} (w : IsWellFormed end g) {or
         place_same n n behind refl,
       )
 
-  module _ {d : List ℕ} (starts slack : List ℕ) {makespan : ℕ} (s : Slackening g d (later_by starts slack) makespan behind) where
+  module _ {d lags : List ℕ} (starts slack : List ℕ) {makespan : ℕ} (s : Slackening g d lags (later_by starts slack) makespan behind) where
     pub children_low : (v : ℕ) → AreJoined g n v → later_by starts slack v ≤ makespan
     children_low v j = omega (arith, s.met v (children_behind v j))
 
     module _ (finishes : List ℕ) (takes : get_or starts n 0 + get_or d n 0 ≡ get_or finishes n 0)
-        (early : AreFeasible g d (λ u. get_or starts u 0)) (most : get_or finishes n 0 ≤ makespan) {latest : ℕ}
-        (finish : IsLatestFinish g n (later_by starts slack) makespan latest) where
+        (early : AreFeasibleWithLags g d lags (λ u. get_or starts u 0)) (most : get_or finishes n 0 ≤ makespan) {latest : ℕ}
+        (finish : IsLatestFinish g n lags (later_by starts slack) makespan latest) where
       pub finish_low : get_or finishes n 0 ≤ latest
       finish_low =
           elim finish.met [
@@ -147,7 +155,7 @@ module _ {N E : Type 0} {end : ℕ} {g : Graph N E} (w : IsWellFormed end g) {or
         ends : later_by starts slack' n + get_or d n 0 ≡ latest
         ends = omega (arith, here, finish_low, takes)
 
-        pub slack_one : Slackening g d (later_by starts slack') makespan (n ∷ behind)
+        pub slack_one : Slackening g d lags (later_by starts slack') makespan (n ∷ behind)
         slack_one =
             record {
               met = λ u m.
@@ -160,9 +168,10 @@ module _ {N E : Type 0} {end : ℕ} {g : Graph N E} (w : IsWellFormed end g) {or
               feasible = λ u v m j.
                   elim m [
                     | inl same ↦
-                        (let J : ℕ → Type 0 = λ z. AreJoined g z v in
-                        let P : ℕ → Type 0 = λ z. later_by starts slack' z + get_or d z 0 ≤ later_by starts slack' v in
-                        let at_n = subst J same j in
+                        (let J : ℕ → Type 0 = λ z. edge_at g j.0 ≡ Some (record { parent = z; child = v; weight = j.1 }) in
+                        let P : ℕ → Type 0 = λ z.
+                        later_by starts slack' z + get_or d z 0 + get_or lags j.0 0 ≤ later_by starts slack' v in
+                        let at_n : AreJoined g n v = (j.0, j.1, subst J same j.2) in
                         let v_apart = apart v (children_behind v at_n) in
                         subst P (sym same) (omega (arith, ends, finish.below v at_n, other v v_apart)))
                     | inr b ↦
@@ -194,7 +203,8 @@ module _ {N E : Type 0} {end : ℕ} {g : Graph N E} (w : IsWellFormed end g) {or
             }
 
 pub all_latest : {N E : Type 0} {end : ℕ} {g : Graph N E} → IsWellFormed end g → {order : List ℕ} → IsOrderOf g order
-    → {d : List ℕ} {start : ℕ → ℕ} {makespan : ℕ} → Slackening g d start makespan order → AreLatest g d start makespan
+    → {d lags : List ℕ} {start : ℕ → ℕ} {makespan : ℕ} → Slackening g d lags start makespan order
+    → AreLatestWithLags g d lags start makespan
 all_latest {g = g} w {order} ord s =
     let there : (n : ℕ) → HasNode g n → Mem n order = λ n h. contains_mem order n ((ord.exact n).1 h) in
     record {

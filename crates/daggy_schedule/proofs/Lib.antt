@@ -15,6 +15,7 @@ pub mod Timing
 pub mod PathBack
 pub mod Late
 pub mod Whole
+pub mod NoLags
 pub mod Durations
 pub mod FirstTaken
 pub mod Led

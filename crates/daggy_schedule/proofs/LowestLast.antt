@@ -99,6 +99,21 @@ module _ {P Q : ℕ → Type 0} {f f' : ℕ → ℕ} {n : ℕ} (cases : (u : ℕ
             ];
       }
 
+-- what goes after one that a third goes before goes after the third
+pub before_after : {early u time m finish n : ℕ} → GoesAfter early u time m → GoesBefore finish n time m
+    → GoesAfter early u finish n
+before_after after before =
+    elim after [
+      | inl less ↦ elim before [
+        | inl more ↦ inl (omega (arith, less, more))
+        | inr lower ↦ inl (omega (arith, less, lower.0))
+      ]
+      | inr same ↦ elim before [
+        | inl more ↦ inl (omega (arith, same.0, more))
+        | inr lower ↦ inr (omega (arith, same.0, lower.0), omega (arith, same.1, lower.1))
+      ]
+    ]
+
 -- one that goes before the lowest of the last goes before all
 pub all_after : {P : ℕ → Type 0} {f : ℕ → ℕ} {q finish n time : ℕ} → IsLowestLast P f q → f q ≡ time
     → GoesBefore finish n time q → (u : ℕ) → P u → GoesAfter (f u) u finish n

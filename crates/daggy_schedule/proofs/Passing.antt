@@ -12,15 +12,15 @@ use Rattle.daggy_base.proofs.Lists.{Mem, Unique, mem_cases, mem_mid}
 use Rattle.daggy_base.proofs.OutEdgesRead.{leaves, listed, out_unique, edge_below, below_bound}
 use Rattle.daggy_schedule.proofs.Counts.{after_split, next_closer}
 
--- the cursor e is behind the edges of n that were passed, to whose children P applies
-pub record Passing {N E : Type 0} (end : ℕ) (g : Graph N E) (n e : ℕ) (P : ℕ → Type 0) : Type 0 where
+-- the cursor e is behind the edges of n that were passed, to which, with their children, P applies
+pub record Passing {N E : Type 0} (end : ℕ) (g : Graph N E) (n e : ℕ) (P : ℕ → ℕ → Type 0) : Type 0 where
   pub before : List ℕ
   pub rest : List ℕ
   pub split : out_list g n ≡ before ++ rest
   pub at_rest : e ≡ first_of end rest
-  pub passed : (k : ℕ) (x : Edge E) → Mem k before → edge_at g k ≡ Some x → P x.child
+  pub passed : (k : ℕ) (x : Edge E) → Mem k before → edge_at g k ≡ Some x → P k x.child
 
-pub passing_from : {N E : Type 0} {end : ℕ} {g : Graph N E} {n e : ℕ} (P : ℕ → Type 0)
+pub passing_from : {N E : Type 0} {end : ℕ} {g : Graph N E} {n e : ℕ} (P : ℕ → ℕ → Type 0)
     → e ≡ first_of end (out_list g n) → Passing end g n e P
 passing_from {N} {E} {end} {g} {n} P is =
     record { before = []; rest = out_list g n; split = refl; at_rest = is; passed = λ k x m. absurd m }
@@ -29,7 +29,7 @@ first_rest : (end e : ℕ) (xs : List ℕ) → e ≡ first_of end xs → e ≢ e
 first_rest end e [] is ne = absurd (ne is)
 first_rest end e (x ∷ xs) is ne = (xs, ap (λ z. z ∷ xs) (sym is))
 
-module _ {N E : Type 0} {end : ℕ} {g : Graph N E} (w : IsWellFormed end g) {n e : ℕ} {P : ℕ → Type 0}
+module _ {N E : Type 0} {end : ℕ} {g : Graph N E} (w : IsWellFormed end g) {n e : ℕ} {P : ℕ → ℕ → Type 0}
     (s : Passing end g n e P) where
   none_left : e ≡ end → (xs : List ℕ) → out_list g n ≡ s.before ++ xs → e ≡ first_of end xs → xs ≡ []
   none_left h [] split is = refl
@@ -39,8 +39,8 @@ module _ {N E : Type 0} {end : ℕ} {g : Graph N E} (w : IsWellFormed end g) {n 
       let low = edge_below end g w y p.0 p.1 in
       absurd (omega (arith, low, is, h))
 
-  -- at the end all children were passed
-  pub all_passed : e ≡ end → (v : ℕ) → AreJoined g n v → P v
+  -- at the end all edges were passed
+  pub all_passed : e ≡ end → (v : ℕ) (j : AreJoined g n v) → P j.0 v
   all_passed h v j =
       let all : out_list g n ≡ s.before =
       s.split ∙ (ap (λ z. s.before ++ z) (none_left h s.rest s.split s.at_rest) ∙ append-nil s.before) in
@@ -93,18 +93,21 @@ module _ {N E : Type 0} {end : ℕ} {g : Graph N E} (w : IsWellFormed end g) {n 
           let whole : (p, c) ≡ (x.parent, x.child) = cc in
           sym (ap (λ (q : ℕ × ℕ). q.1) whole)
 
-      pub passed_joined : AreJoined g n c
-      passed_joined =
+      pub passed_edge : (x : E) × (edge_at g e ≡ Some (record { parent = n; child = c; weight = x }))
+      passed_edge =
           let r = edge in
-          let J : ℕ → Type 0 = λ z. AreJoined g z c in
-          let K : ℕ → Type 0 = λ z. AreJoined g r.0.parent z in
-          subst J r.2 (subst K child_is (e, r.0.weight, r.1))
+          let J : ℕ → Type 0 = λ z. edge_at g e ≡ Some (record { parent = z; child = c; weight = r.0.weight }) in
+          let K : ℕ → Type 0 = λ z. edge_at g e ≡ Some (record { parent = r.0.parent; child = z; weight = r.0.weight }) in
+          (r.0.weight, subst J r.2 (subst K child_is r.1))
+
+      pub passed_joined : AreJoined g n c
+      passed_joined = (e, passed_edge.0, passed_edge.1)
 
       pub passed_low : c < node_bound g
       passed_low = let j = passed_joined in below_bound g.nodes c (w.children j.0 _ j.2)
 
-      pub passing_on : (next : ℕ) → next ≡ cursor_after Outgoing end g e (edge_at g e) → (Q : ℕ → Type 0)
-          → ((v : ℕ) → P v → Q v) → Q c → Passing end g n next Q
+      pub passing_on : (next : ℕ) → next ≡ cursor_after Outgoing end g e (edge_at g e) → (Q : ℕ → ℕ → Type 0)
+          → ((k v : ℕ) → P k v → Q k v) → Q e c → Passing end g n next Q
       passing_on next is Q keeps holds =
           record {
             before = s.before ++ e ∷ [];
@@ -113,12 +116,13 @@ module _ {N E : Type 0} {end : ℕ} {g : Graph N E} (w : IsWellFormed end g) {n 
             at_rest = next_is next is;
             passed = λ k x m at.
                 elim (mem_cases s.before (e ∷ []) k m) [
-                  | inl a ↦ keeps x.child (s.passed k x a at)
+                  | inl a ↦ keeps k x.child (s.passed k x a at)
                   | inr b ↦ elim b [
                     | inl same ↦ (
                         let both : Some x ≡ Some edge.0 = sym at ∙ (ap (λ z. edge_at g z) same ∙ edge.1) in
                         let whole : x ≡ edge.0 = cc in
-                        subst Q (sym (ap (λ (y : Edge E). y.child) whole ∙ child_is)) holds
+                        let R : ℕ → Type 0 = λ z. Q z x.child in
+                        subst R (sym same) (subst (Q e) (sym (ap (λ (y : Edge E). y.child) whole ∙ child_is)) holds)
                         )
                     | inr nothing ↦ absurd nothing
                   ]

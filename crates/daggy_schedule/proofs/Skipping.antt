@@ -31,7 +31,7 @@ use Rattle.daggy_schedule.proofs.Passing.{Passing, passing_from, passing_on, pas
 -- the marks as they were, and as they are with the cursor at e
 pub record Marking {N E : Type 0} (end : ℕ) (g : Graph N E) (n : ℕ) (marks : List Bool) (e : ℕ) (marks' : List Bool)
     : Type 0 where
-  pub passing : Passing end g n e (λ v. IsSet marks' v)
+  pub passing : Passing end g n e (λ e v. IsSet marks' v)
   pub sized : length marks' ≡ length marks
   pub kept : (v : ℕ) → IsSet marks v → IsSet marks' v
   pub marked : (v : ℕ) → IsSet marks' v → IsSet marks v ⊎ AreJoined g n v
@@ -40,7 +40,7 @@ pub marking_none : {N E : Type 0} (end : ℕ) (g : Graph N E) (n : ℕ) (marks :
     → e ≡ first_of end (out_list g n) → Marking end g n marks e marks
 marking_none end g n marks first =
     record {
-      passing = passing_from (λ v. IsSet marks v) first;
+      passing = passing_from (λ e v. IsSet marks v) first;
       sized = refl;
       kept = λ v m. m;
       marked = λ v m. inl m;
@@ -55,7 +55,7 @@ module _ {N E : Type 0} {end : ℕ} {g : Graph N E} (w : IsWellFormed end g) {n 
       let more = set_more now c low in
       record {
         passing =
-            passing_on w s.passing here ends next is (λ v. IsSet (set now c true) v) (λ v m. (more v).1 (inl m))
+            passing_on w s.passing here ends next is (λ e v. IsSet (set now c true) v) (λ e v m. (more v).1 (inl m))
             ((more c).1 (inr refl));
         sized = length-set now c true ∙ s.sized;
         kept = λ v m. (more v).1 (inl (s.kept v m));

@@ -1,18 +1,19 @@
 -- A whole schedule, by its parts.
-use Rattle.std.proofs.Common.{◌≡◌, ℕ, ◌+◌, ◌<◌, ◌≤◌, ◌^◌, inl, inr, List, [], ◌∷◌, get_or, sym, ap, subst, ◌∙◌, arith}
+use Rattle.std.proofs.Common.{◌≡◌, ℕ, ◌+◌, ◌<◌, ◌≤◌, ◌^◌, inl, inr, List, [], ◌∷◌, get_or, subst, ◌∙◌, sym, arith}
 use Rattle.daggy_base.specs.Graph.{Graph, HasNode}
 use Rattle.daggy_base.specs.Path.{IsPath}
-use Rattle.daggy_schedule.specs.Times.{span, AreEarliest, IsMakespan, IsCritical, TakesTooLong}
-use Rattle.daggy_schedule.specs.Times.{IsLowestLast, IsTracedBack}
+use Rattle.daggy_schedule.specs.Times.{span, IsLowestLast}
+use Rattle.daggy_schedule.specs.Lags.{lags_along, AreEarliestWithLags, IsMakespanWithLags, IsCriticalWithLags}
+use Rattle.daggy_schedule.specs.Lags.{TakesTooLongWithLags, IsTracedBackWithLags}
 use Rattle.daggy_schedule.specs.Passes.{AreNoted, IsLast}
 
-module _ {N E : Type 0} {end : ℕ} {g : Graph N E} {d starts parents finishes : List ℕ} {makespan last : ℕ}
-    (a : AreNoted end g d starts parents finishes) (early : AreEarliest g d (λ n. get_or starts n 0))
+module _ {N E : Type 0} {end : ℕ} {g : Graph N E} {d lags starts parents finishes : List ℕ} {makespan last : ℕ}
+    (a : AreNoted end g d lags starts parents finishes) (early : AreEarliestWithLags g d lags (λ n. get_or starts n 0))
     (l : IsLast end g finishes makespan last) where
   met : (n : ℕ) → HasNode g n → get_or starts n 0 + get_or d n 0 ≤ makespan
   met n h = omega (arith, a.takes n h, l.most n h)
 
-  pub whole_makespan : IsMakespan g d (λ n. get_or starts n 0) makespan
+  pub whole_makespan : IsMakespanWithLags g d lags (λ n. get_or starts n 0) makespan
   whole_makespan =
       record {
         met = met;
@@ -23,35 +24,35 @@ module _ {N E : Type 0} {end : ℕ} {g : Graph N E} {d starts parents finishes :
             ];
       }
 
-  pub whole_critical : (path : List ℕ) → (last ≡ end → path ≡ []) → (HasNode g last → IsPath g path)
-      → (HasNode g last → span d path ≡ get_or finishes last 0) → IsCritical g d path makespan
-  whole_critical path empty joined sum =
+  pub whole_critical : (path : List ℕ) → (last ≡ end → path ≡ [])
+      → (HasNode g last → (p : IsPath g path) × (span d path + lags_along g lags path p ≡ get_or finishes last 0))
+      → IsCriticalWithLags g d lags path makespan
+  whole_critical path empty sum =
       elim l.is_last [
-        | inl p ↦ record { path = inl (joined p.0.here); sum = sum p.0.here ∙ p.1 }
-        | inr none ↦ record {
-          path = inr (empty none.2, none.0);
-          sum = ap (span d) (empty none.2) ∙ sym none.1;
-        }
+        | inl p ↦ (let whole = sum p.0.here in inl (whole.0, whole.1 ∙ p.1))
+        | inr none ↦ inr (empty none.2, none.0, none.1)
       ]
 
   pub whole_traced : (path : List ℕ) → (last ≡ end → path ≡ [])
-      → (IsLowestLast (HasNode g) (λ m. get_or finishes m 0) last → IsTracedBack g (λ m. get_or finishes m 0) path)
-      → IsTracedBack g (λ m. get_or finishes m 0) path
+      → (IsLowestLast (HasNode g) (λ m. get_or finishes m 0) last
+      → IsTracedBackWithLags g (λ m. get_or finishes m 0) lags path)
+      → IsTracedBackWithLags g (λ m. get_or finishes m 0) lags path
   whole_traced path empty traced =
       elim l.is_last [
         | inl p ↦ traced p.0
         | inr none ↦
-            (let P : List ℕ → Type 0 = λ z. IsTracedBack g (λ m. get_or finishes m 0) z in
+            (let P : List ℕ → Type 0 = λ z. IsTracedBackWithLags g (λ m. get_or finishes m 0) lags z in
             subst P (sym (empty none.2)) (record { waited_for = tt; first = λ n rest at u. absurd cc }))
       ]
 
-  along : (x : ℕ) (rest : List ℕ) → IsPath g (x ∷ rest) → get_or starts x 0 + span d (x ∷ rest) ≤ makespan
+  along : (x : ℕ) (rest : List ℕ) (p : IsPath g (x ∷ rest))
+      → get_or starts x 0 + (span d (x ∷ rest) + lags_along g lags (x ∷ rest) p) ≤ makespan
   along x [] p = omega (arith, met x p)
   along x (v ∷ rest) p = omega (arith, early.feasible x v p.1, along v rest p.2)
 
-  pub whole_fits : makespan < 2 ^ 64 → TakesTooLong g d → ⊥
+  pub whole_fits : makespan < 2 ^ 64 → TakesTooLongWithLags g d lags → ⊥
   whole_fits fits t = none t.0 t.1 t.2
     where
-      none : (path : List ℕ) → IsPath g path → 2 ^ 64 ≤ span d path → ⊥
+      none : (path : List ℕ) (p : IsPath g path) → 2 ^ 64 ≤ span d path + lags_along g lags path p → ⊥
       none [] p long = p
       none (x ∷ rest) p long = omega (arith, along x rest p, fits, long)

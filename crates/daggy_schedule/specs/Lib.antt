@@ -2,6 +2,7 @@ pub mod Work
 pub mod Queue
 pub mod Fallible
 pub mod Times
+pub mod Lags
 pub mod Passes
 pub mod LeastFirst
 pub mod Entries

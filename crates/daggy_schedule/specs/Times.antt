@@ -42,23 +42,35 @@ AreFeasible g durations start = (u v : ℕ) → AreJoined g u v → start u + sl
 abbrev pub AreDoneBy : {N E : Type 0} → Graph N E → (durations : List ℕ) (start : ℕ → ℕ) (time : ℕ) → Type 0
 AreDoneBy g durations start time = (n : ℕ) → HasNode g n → start n + slice_index durations n ≤ time
 
+module _ {N E : Type 0} (g : Graph N E) where
+  -- starts that are allowed, of which none can be earlier
+  pub record AreEarliestOf (IsAllowed : (ℕ → ℕ) → Type 0) (start : ℕ → ℕ) : Type 0 where
+    pub feasible : IsAllowed start
+    pub least : (other : ℕ → ℕ) → IsAllowed other → (n : ℕ) → HasNode g n → start n ≤ other n
+
+  -- starts that are allowed and with which all have finished by then, of which none can be later
+  pub record AreLatestOf (IsAllowed : (ℕ → ℕ) → Type 0) (durations : List ℕ) (start : ℕ → ℕ) (time : ℕ) : Type 0 where
+    pub feasible : IsAllowed start
+    pub met : AreDoneBy g durations start time
+    pub greatest : (other : ℕ → ℕ) → IsAllowed other → AreDoneBy g durations other time
+        → (n : ℕ) → HasNode g n → other n ≤ start n
+
+  -- with these starts all have finished by then, and with no starts that are allowed do all finish earlier
+  pub record IsMakespanOf (IsAllowed : (ℕ → ℕ) → Type 0) (durations : List ℕ) (start : ℕ → ℕ) (time : ℕ) : Type 0 where
+    pub met : AreDoneBy g durations start time
+    pub least : (other : ℕ → ℕ) (earlier : ℕ) → IsAllowed other → AreDoneBy g durations other earlier → time ≤ earlier
+
 -- feasible starts, of which none can be earlier
-pub record AreEarliest {N E : Type 0} (g : Graph N E) (durations : List ℕ) (start : ℕ → ℕ) : Type 0 where
-  pub feasible : AreFeasible g durations start
-  pub least : (other : ℕ → ℕ) → AreFeasible g durations other → (n : ℕ) → HasNode g n → start n ≤ other n
+abbrev pub AreEarliest : {N E : Type 0} → Graph N E → (durations : List ℕ) (start : ℕ → ℕ) → Type 0
+AreEarliest g durations start = AreEarliestOf g (AreFeasible g durations) start
 
 -- feasible starts with which all have finished by then, of which none can be later
-pub record AreLatest {N E : Type 0} (g : Graph N E) (durations : List ℕ) (start : ℕ → ℕ) (time : ℕ) : Type 0 where
-  pub feasible : AreFeasible g durations start
-  pub met : AreDoneBy g durations start time
-  pub greatest : (other : ℕ → ℕ) → AreFeasible g durations other → AreDoneBy g durations other time
-      → (n : ℕ) → HasNode g n → other n ≤ start n
+abbrev pub AreLatest : {N E : Type 0} → Graph N E → (durations : List ℕ) (start : ℕ → ℕ) (time : ℕ) → Type 0
+AreLatest g durations start time = AreLatestOf g (AreFeasible g durations) durations start time
 
 -- with these starts all have finished by then, and with no feasible starts do all finish earlier
-pub record IsMakespan {N E : Type 0} (g : Graph N E) (durations : List ℕ) (start : ℕ → ℕ) (time : ℕ) : Type 0 where
-  pub met : AreDoneBy g durations start time
-  pub least : (other : ℕ → ℕ) (earlier : ℕ) → AreFeasible g durations other → AreDoneBy g durations other earlier
-      → time ≤ earlier
+abbrev pub IsMakespan : {N E : Type 0} → Graph N E → (durations : List ℕ) (start : ℕ → ℕ) (time : ℕ) → Type 0
+IsMakespan g durations start time = IsMakespanOf g (AreFeasible g durations) durations start time
 
 -- of the nodes for which this holds, the lowest of those that finish last
 pub record IsLowestLast (holds : ℕ → Type 0) (finish : ℕ → ℕ) (n : ℕ) : Type 0 where
@@ -66,18 +78,23 @@ pub record IsLowestLast (holds : ℕ → Type 0) (finish : ℕ → ℕ) (n : ℕ
   pub last : (m : ℕ) → holds m → finish m ≤ finish n
   pub lowest : (m : ℕ) → holds m → finish m ≡ finish n → n ≤ m
 
--- the last node of a list is the lowest of all that finish last, and each other one of the parents of the next
-abbrev pub AreWaitedFor : {N E : Type 0} → Graph N E → (finish : ℕ → ℕ) → List ℕ → Type 0
-AreWaitedFor g finish [] = Unit {0}
-AreWaitedFor g finish (n ∷ []) = IsLowestLast (HasNode g) finish n
-AreWaitedFor g finish (u ∷ v ∷ rest) =
-    IsLowestLast (λ m. AreJoined g m v) finish u × AreWaitedFor g finish (v ∷ rest)
+module _ {N E : Type 0} (g : Graph N E) (WaitsFor : ℕ → ℕ → Type 0) (finish : ℕ → ℕ) where
+  -- the last node of a list is the lowest of all that finish last, and each other one the one that the next waits for
+  abbrev pub AreWaitedFor : List ℕ → Type 0
+  AreWaitedFor [] = Unit {0}
+  AreWaitedFor (n ∷ []) = IsLowestLast (HasNode g) finish n
+  AreWaitedFor (u ∷ v ∷ rest) = WaitsFor v u × AreWaitedFor (v ∷ rest)
+
+  -- The nodes from the lowest of those that finish last back, each time to the node that it waits for, to a node without
+  -- parents.
+  pub record IsTracedBackBy (nodes : List ℕ) : Type 0 where
+    pub waited_for : AreWaitedFor nodes
+    pub first : (n : ℕ) (rest : List ℕ) → nodes ≡ n ∷ rest → (u : ℕ) → ¬ AreJoined g u n
 
 -- The nodes from the lowest of those that finish last back, each time to the lowest of the parents that finish last, to a
 -- node without parents.
-pub record IsTracedBack {N E : Type 0} (g : Graph N E) (finish : ℕ → ℕ) (nodes : List ℕ) : Type 0 where
-  pub waited_for : AreWaitedFor g finish nodes
-  pub first : (n : ℕ) (rest : List ℕ) → nodes ≡ n ∷ rest → (u : ℕ) → ¬ AreJoined g u n
+abbrev pub IsTracedBack : {N E : Type 0} → Graph N E → (finish : ℕ → ℕ) (nodes : List ℕ) → Type 0
+IsTracedBack g finish nodes = IsTracedBackBy g (λ v u. IsLowestLast (λ m. AreJoined g m v) finish u) finish nodes
 
 -- a path, or nothing if there are no nodes, whose durations sum up to the time
 pub record IsCritical {N E : Type 0} (g : Graph N E) (durations nodes : List ℕ) (time : ℕ) : Type 0 where

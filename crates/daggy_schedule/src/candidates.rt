@@ -1,4 +1,4 @@
-//! Nodes that wait, with their keys, until they are taken.
+//! A priority queue of nodes with keys.
 ghost use Rattle.std.specs.Prelude.{◌≡◌, ◌<◌, ◌≤◌, ◌∷◌, [], ℕ, length, IsNone, IfSome, IfOk, OnOk};
 ghost use Rattle.std.specs.Prelude.{Contains, IsPermutation};
 ghost use Rattle.std.specs.List.{AllByRecursion};

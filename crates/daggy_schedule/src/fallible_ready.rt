@@ -1,4 +1,4 @@
-//! The nodes of a dag that are ready, where nodes may fail.
+//! The nodes of a dag that are ready, if nodes may fail.
 ghost use Rattle.std.specs.Prelude.{◌≡◌, ℕ, ◌<◌, ◌≤◌, ◌↔◌, ◌⊎◌, []};
 ghost use Rattle.std.specs.Prelude.{IsTrue, IsNone, IfSome, IfOk, Contains, filter, length, map, vec_len};
 ghost use Rattle.std.specs.List.{range_with_len};
@@ -21,7 +21,7 @@ use std::alloc::{AllocError, Global};
 use std::marker::Model;
 
 /// A [`Ready`] queue whose nodes may fail. A node that failed is not done, so its descendants never
-/// become ready: they are skipped. All other nodes are returned, as by `make --keep-going`.
+/// become ready: they are skipped. All other nodes are returned, as with `make --keep-going`.
 ///
 /// It does not borrow the dag; each call that needs the dag borrows it for that call. Until the
 /// work is over, no node and no edge may be added or removed. Weights may be written: by the lemmas
@@ -30,13 +30,13 @@ use std::marker::Model;
 /// For proofs: [`next`](FallibleReady::next), [`done`](FallibleReady::done) and
 /// [`fail`](FallibleReady::fail) require that no node or edge has been added or removed since
 /// [`new`](FallibleReady::new), and ensure that this still holds at the next call. A struct that
-/// has both the dag and this queue states this once, as a field `ghost under_way: {
+/// has both the dag and the queue can state this once, as a field `ghost under_way: {
 /// IsUnderWayWithFailures dag.now.graph ready }`.
 ///
 /// # Complexity
 ///
 /// O(nodes + edges) for a whole run. [`new`](FallibleReady::new) and
-/// [`skipped`](FallibleReady::skipped) allocate; no other call does.
+/// [`skipped`](FallibleReady::skipped) allocate; no other method does.
 ///
 /// # Examples
 ///

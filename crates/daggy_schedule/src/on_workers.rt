@@ -63,8 +63,8 @@ pub struct Assignment {
 /// # Errors
 ///
 /// Returns `ScheduleError::Overflow` only if the bound on the makespan is 2^64 or more: the sum of
-/// all durations, plus (workers - 1) times the sum of those along a longest path, all divided by
-/// the number of workers. Returns `ScheduleError::Memory` if an allocation fails.
+/// all durations, plus (workers - 1) times the sum of the durations along a longest path, all
+/// divided by the number of workers. Returns `ScheduleError::Memory` if an allocation fails.
 ///
 /// # Complexity
 ///

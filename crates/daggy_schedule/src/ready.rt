@@ -27,13 +27,13 @@ use std::marker::Model;
 ///
 /// For proofs: [`next`](Ready::next) and [`done`](Ready::done) require that no node or edge has
 /// been added or removed since [`new`](Ready::new), and ensure that this still holds at the next
-/// call. A struct that has both the dag and this queue states this once, as a field `ghost
+/// call. A struct that has both the dag and the queue can state this once, as a field `ghost
 /// under_way: { IsUnderWay dag.now.graph ready }`.
 ///
 /// # Complexity
 ///
-/// O(nodes + edges) for a whole run. [`new`](Ready::new) allocates all the memory; no other call
-/// does.
+/// O(nodes + edges) for a whole run. [`new`](Ready::new) allocates all the memory; no other method
+/// allocates.
 ///
 /// # Examples
 ///

@@ -32,13 +32,13 @@ use std::marker::Model;
 ///
 /// For proofs: [`next`](ReadyByKey::next) and [`done`](ReadyByKey::done) require that no node or
 /// edge has been added or removed since [`new`](ReadyByKey::new), and ensure that this still holds
-/// at the next call. A struct that has both the dag and this queue states this once, as a field
+/// at the next call. A struct that has both the dag and the queue can state this once, as a field
 /// `ghost under_way: { IsUnderWayByKey dag.now.graph ready }`.
 ///
 /// # Complexity
 ///
 /// O(nodes * log(nodes) + edges) for a whole run. [`new`](ReadyByKey::new) allocates all the
-/// memory; no other call does.
+/// memory; no other method allocates.
 ///
 /// # Examples
 ///

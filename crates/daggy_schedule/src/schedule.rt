@@ -1,26 +1,37 @@
-//! How early and how late the nodes of a dag can start, given the duration of each.
-ghost use Rattle.std.specs.Prelude.{◌≡◌, ℕ, ◌+◌, List, map, Err, IfOk, vec_len, slice_index};
-ghost use Rattle.daggy_base.specs.Graph.{HasNode, node_bound};
+//! How early and how late the nodes of a dag can start, given the duration of each, and the lags of
+//! the edges if there are any.
+ghost use Rattle.std.specs.Prelude.{◌≡◌, ℕ, ◌+◌, List, [], map, Err, IfOk, vec_len, slice_index};
+ghost use Rattle.daggy_base.specs.Graph.{HasNode, node_bound, edge_bound};
 ghost use Rattle.daggy_schedule.specs.Times.{CanCallAtEachNode, AreDurations, IsZeroElsewhere};
 ghost use Rattle.daggy_schedule.specs.Times.{TakesTooLong};
 ghost use Rattle.daggy_schedule.specs.Times.{AreEarliest, AreLatest, IsMakespan, IsCritical, IsTracedBack};
+ghost use Rattle.daggy_schedule.specs.Lags.{CanCallAtEachEdge, AreLags, IsZeroWithoutEdge};
+ghost use Rattle.daggy_schedule.specs.Lags.{TakesTooLongWithLags, AreEarliestWithLags};
+ghost use Rattle.daggy_schedule.specs.Lags.{AreLatestWithLags, IsMakespanWithLags};
+ghost use Rattle.daggy_schedule.specs.Lags.{IsCriticalWithLags, IsTracedBackWithLags};
 ghost use Rattle.daggy_schedule.specs.declared.schedule.ScheduleError.TheVariants.{Overflow};
 ghost use Rattle.daggy_schedule.specs.declared.schedule.ScheduleError.TheVariants.{Memory as OutOfMemory};
 
-use daggy_base::index::{DefaultIx, IndexType, NodeIndex};
+use daggy_base::index::{DefaultIx, EdgeIndex, IndexType, NodeIndex};
 use daggy_base::read_store::ReadStore;
 use daggy_dag::acyclic::Acyclic;
 use std::alloc::{AllocError, Global};
 use thiserror::Error;
 
 mod early;
+mod lags;
 mod late;
 
 use early::{earliest, path_back};
+use lags::lags_of;
 use late::{nodes_in_order, slack_of};
 
-/// When each node of a dag starts and finishes. The lists are indexed by node, with 0 at indices
-/// without a node.
+/// When each node of a dag starts and finishes. The lists of times are indexed by node, with 0 at
+/// indices without a node.
+///
+/// A child starts no earlier than each of its parents has finished. With lags
+/// ([`with_lags`](Schedule::with_lags)) it waits longer: for each edge, until the lag of that edge
+/// has passed after the parent has finished.
 ///
 /// # Examples
 ///
@@ -36,22 +47,27 @@ use late::{nodes_in_order, slack_of};
 pub struct Schedule<Ix: IndexType = DefaultIx> {
     /// The duration of each node.
     pub durations: Vec<u64>,
-    /// The earliest start of each node: the time when all of its parents have finished.
+    /// The lag of each edge, indexed by edge, with 0 at indices without an edge. Empty if the
+    /// schedule was made without lags.
+    pub lags: Vec<u64>,
+    /// The earliest start of each node: the time when all of its parents have finished, and the lags
+    /// of the edges from them have passed.
     pub starts: Vec<u64>,
     /// The earliest finish of each node.
     pub finishes: Vec<u64>,
     /// The slack of each node: how much later it can start without increasing the makespan.
     pub slack: Vec<u64>,
-    /// A critical path: a path whose durations add up to the makespan. Empty only if there are no
-    /// nodes. It ends with the node that finishes last, and each node comes after its parent that
-    /// finishes last; ties go to the lowest index. So it depends only on the nodes, the adjacent
-    /// pairs and the durations, and not on how the dag was built.
+    /// A critical path: a path whose durations and lags add up to the makespan. Empty only if there
+    /// are no nodes. It ends with the node that finishes last, and each node comes after the parent
+    /// that it waits for: the one that finishes last, or, with lags, the one from which the lag of an
+    /// edge ends last. Ties go to the lowest index. So it depends only on the nodes, the edges, the
+    /// durations and the lags, and not on how the dag was built.
     pub critical: Vec<NodeIndex<Ix>>,
     /// The length of the schedule: the greatest finish, or 0 if there are no nodes.
     pub makespan: u64,
 }
 
-/// Why there is no schedule.
+/// Why no schedule could be made.
 ///
 /// # Examples
 ///
@@ -64,8 +80,8 @@ pub struct Schedule<Ix: IndexType = DefaultIx> {
 /// ```
 #[derive(Clone, Copy, Debug, Eq, Error, PartialEq)]
 pub enum ScheduleError {
-    /// The durations along some path add up to 2^64 or more, or the makespan on workers may be that
-    /// long.
+    /// The durations along some path, with the lags of its edges, add up to 2^64 or more, or, in
+    /// `schedule_on`, the bound on the makespan is 2^64 or more.
     #[error("the nodes take too long")]
     Overflow,
     /// An allocation failed.
@@ -82,10 +98,10 @@ impl From<AllocError> for ScheduleError {
 }
 
 impl<Ix: IndexType> Schedule<Ix> {
-    /// When each node can start and finish if it waits only for its parents, how much later it can
-    /// start, and a critical path: the critical path method (Kelley and Walker 1959), by one pass
-    /// along the dag's order and one pass against it. `durations` is called once with each node;
-    /// the unit is up to the caller.
+    /// Computes when each node can start and finish if it waits only for its parents, how much
+    /// later it can start, and a critical path: the critical path method (Kelley and Walker 1959),
+    /// by one pass in the dag's order and one pass in reverse. `durations` is called once with each
+    /// node; the unit is up to the caller.
     ///
     /// # Requires
     ///
@@ -128,6 +144,7 @@ impl<Ix: IndexType> Schedule<Ix> {
             × (vec_len s.slack ≡ node_bound dag.now.graph)) }
         ensures durations { IfOk result (λ s.
             AreDurations Ix.of F.post durations dag.now.graph s.durations.items) }
+        ensures lags { IfOk result (λ s. s.lags.items ≡ []) }
         ensures starts { IfOk result (λ s.
             AreEarliest dag.now.graph s.durations.items (slice_index s.starts.items)) }
         ensures finishes { IfOk result (λ s. (n : ℕ) → HasNode dag.now.graph n
@@ -155,25 +172,171 @@ impl<Ix: IndexType> Schedule<Ix> {
             × TakesTooLong dag.now.graph durations' }
     {
         let durations = durations_of(alloc, dag, durations)?;
-        let early = earliest(alloc, dag, durations.as_slice())?;
-        let order = nodes_in_order(alloc, dag)?;
-        let slack = slack_of(alloc, dag, order.as_slice(), durations.as_slice(), &early)?;
-        let critical = path_back(
-            alloc,
-            dag,
-            order.as_slice(),
-            early.last,
-            early.parents.as_slice(),
-        )?;
-        Ok(Schedule {
-            durations,
-            starts: early.starts,
-            finishes: early.finishes,
-            slack,
-            critical,
-            makespan: early.makespan,
-        })
+        let lags = Vec::new(alloc);
+        timed(alloc, dag, durations, lags)
     }
+
+    /// The same as [`new`](Schedule::new) where a child may have to wait after its parent has
+    /// finished, as a wall has to dry before it is painted. Each edge has such a time, its lag: the
+    /// child starts no earlier than the lag after the parent has finished. Planners call this a
+    /// dependency from finish to start with a lag. `durations` is called once with each node and
+    /// `lags` once with each edge; the unit is up to the caller.
+    ///
+    /// If several edges lead from one node to another, the greatest of their lags counts. With a lag
+    /// of 0 for each edge, the times are those of [`new`](Schedule::new).
+    ///
+    /// # Requires
+    ///
+    /// - `durations`: `durations` may be called with each node and its weight.
+    /// - `lags`: `lags` may be called with each edge and its weight.
+    ///
+    /// # Errors
+    ///
+    /// Returns `ScheduleError::Overflow` if the durations along some path, with the lags of its
+    /// edges, add up to 2^64 or more, and `ScheduleError::Memory` if an allocation fails before the
+    /// overflow is detected.
+    ///
+    /// # Complexity
+    ///
+    /// O(nodes + edges), plus the calls.
+    ///
+    /// # Examples
+    ///
+    /// ```
+    /// // Nodes weigh the days that they take. The plaster dries for two days before the wall is
+    /// // painted; the shelves can be built at once.
+    /// let mut dag: Dag<u64, u64> = Dag::new(rt.alloc());
+    /// let plaster = dag.add_node(1)?;
+    /// let (_, paint) = dag.add_child(plaster, 2, 1)?;
+    /// let (_, build_shelves) = dag.add_child(plaster, 0, 1)?;
+    /// let plan = Schedule::with_lags(rt.alloc(), &dag, |_, days| *days, |_, days| *days)?;
+    /// assert!(rt; plan.makespan == 4);
+    /// assert!(rt; plan.starts[paint.index()] == 3);
+    /// assert!(rt; plan.starts[build_shelves.index()] == 1);
+    /// assert!(rt; plan.slack[build_shelves.index()] == 2);
+    /// assert!(rt; plan.critical.as_slice() == [plaster, paint].as_slice());
+    /// ```
+    pub fn with_lags<N: Drop, E: Drop, S, F, L>(
+        alloc: Global,
+        dag: &Acyclic<N, E, Ix, S>,
+        durations: F,
+        lags: L,
+    ) -> Result<Self, ScheduleError>
+    where
+        S: ReadStore<Ix, NodeWeight = N, EdgeWeight = E>,
+        F: Fn(NodeIndex<Ix>, &N) -> u64,
+        L: Fn(EdgeIndex<Ix>, &E) -> u64,
+        requires durations { CanCallAtEachNode Ix.of F.pre durations dag.now.graph }
+        requires lags { CanCallAtEachEdge Ix.of L.pre lags dag.now.graph }
+        ensures sized { IfOk result (λ s. (vec_len s.durations ≡ node_bound dag.now.graph)
+            × (vec_len s.lags ≡ edge_bound dag.now.graph)
+            × (vec_len s.starts ≡ node_bound dag.now.graph)
+            × (vec_len s.finishes ≡ node_bound dag.now.graph)
+            × (vec_len s.slack ≡ node_bound dag.now.graph)) }
+        ensures durations { IfOk result (λ s.
+            AreDurations Ix.of F.post durations dag.now.graph s.durations.items) }
+        ensures lags { IfOk result (λ s. AreLags Ix.of L.post lags dag.now.graph s.lags.items) }
+        ensures starts { IfOk result (λ s. AreEarliestWithLags dag.now.graph s.durations.items
+            s.lags.items (slice_index s.starts.items)) }
+        ensures finishes { IfOk result (λ s. (n : ℕ) → HasNode dag.now.graph n
+            → slice_index s.finishes.items n
+            ≡ slice_index s.starts.items n + slice_index s.durations.items n) }
+        ensures makespan { IfOk result (λ s. IsMakespanWithLags dag.now.graph s.durations.items
+            s.lags.items (slice_index s.starts.items) s.makespan) }
+        ensures slack { IfOk result (λ s. AreLatestWithLags dag.now.graph s.durations.items
+            s.lags.items (λ n. slice_index s.starts.items n + slice_index s.slack.items n)
+            s.makespan) }
+        ensures critical { IfOk result (λ s. IsCriticalWithLags dag.now.graph s.durations.items
+            s.lags.items (map Ix.number s.critical.items) s.makespan) }
+        ensures traced_back { IfOk result (λ s. IsTracedBackWithLags dag.now.graph
+            (slice_index s.finishes.items) s.lags.items (map Ix.number s.critical.items)) }
+        ensures durations_elsewhere { IfOk result (λ s.
+            IsZeroElsewhere dag.now.graph s.durations.items) }
+        ensures lags_elsewhere { IfOk result (λ s.
+            IsZeroWithoutEdge dag.now.graph s.lags.items) }
+        ensures starts_elsewhere { IfOk result (λ s.
+            IsZeroElsewhere dag.now.graph s.starts.items) }
+        ensures finishes_elsewhere { IfOk result (λ s.
+            IsZeroElsewhere dag.now.graph s.finishes.items) }
+        ensures slack_elsewhere { IfOk result (λ s.
+            IsZeroElsewhere dag.now.graph s.slack.items) }
+        ensures fits { IfOk result (λ s.
+            ¬ TakesTooLongWithLags dag.now.graph s.durations.items s.lags.items) }
+        ensures overflow { result ≡ Err Overflow → (durations' lags' : List ℕ)
+            × AreDurations Ix.of F.post durations dag.now.graph durations'
+            × AreLags Ix.of L.post lags dag.now.graph lags'
+            × TakesTooLongWithLags dag.now.graph durations' lags' }
+    {
+        let durations = durations_of(alloc, dag, durations)?;
+        let lags = lags_of(alloc, dag, lags)?;
+        timed(alloc, dag, durations, lags)
+    }
+}
+
+// The schedule with these durations and lags. An edge has lag 0 if the list of lags has none for it.
+fn timed<N: Drop, E: Drop, Ix: IndexType, S>(
+    alloc: Global,
+    dag: &Acyclic<N, E, Ix, S>,
+    durations: Vec<u64>,
+    lags: Vec<u64>,
+) -> Result<Schedule<Ix>, ScheduleError>
+where
+    S: ReadStore<Ix, NodeWeight = N, EdgeWeight = E>,
+    requires { vec_len durations ≡ node_bound dag.now.graph }
+    ensures durations { IfOk result (λ s. s.durations ≡ durations) }
+    ensures lags { IfOk result (λ s. s.lags ≡ lags) }
+    ensures sized { IfOk result (λ s. (vec_len s.starts ≡ node_bound dag.now.graph)
+        × (vec_len s.finishes ≡ node_bound dag.now.graph)
+        × (vec_len s.slack ≡ node_bound dag.now.graph)) }
+    ensures starts { IfOk result (λ s. AreEarliestWithLags dag.now.graph s.durations.items
+        s.lags.items (slice_index s.starts.items)) }
+    ensures finishes { IfOk result (λ s. (n : ℕ) → HasNode dag.now.graph n
+        → slice_index s.finishes.items n
+        ≡ slice_index s.starts.items n + slice_index s.durations.items n) }
+    ensures makespan { IfOk result (λ s. IsMakespanWithLags dag.now.graph s.durations.items
+        s.lags.items (slice_index s.starts.items) s.makespan) }
+    ensures slack { IfOk result (λ s. AreLatestWithLags dag.now.graph s.durations.items
+        s.lags.items (λ n. slice_index s.starts.items n + slice_index s.slack.items n)
+        s.makespan) }
+    ensures critical { IfOk result (λ s. IsCriticalWithLags dag.now.graph s.durations.items
+        s.lags.items (map Ix.number s.critical.items) s.makespan) }
+    ensures traced_back { IfOk result (λ s. IsTracedBackWithLags dag.now.graph
+        (slice_index s.finishes.items) s.lags.items (map Ix.number s.critical.items)) }
+    ensures starts_elsewhere { IfOk result (λ s. IsZeroElsewhere dag.now.graph s.starts.items) }
+    ensures finishes_elsewhere { IfOk result (λ s.
+        IsZeroElsewhere dag.now.graph s.finishes.items) }
+    ensures slack_elsewhere { IfOk result (λ s. IsZeroElsewhere dag.now.graph s.slack.items) }
+    ensures fits { IfOk result (λ s.
+        ¬ TakesTooLongWithLags dag.now.graph s.durations.items s.lags.items) }
+    ensures overflow { result ≡ Err Overflow
+        → TakesTooLongWithLags dag.now.graph durations.items lags.items }
+{
+    let early = earliest(alloc, dag, durations.as_slice(), lags.as_slice())?;
+    let order = nodes_in_order(alloc, dag)?;
+    let slack = slack_of(
+        alloc,
+        dag,
+        order.as_slice(),
+        durations.as_slice(),
+        lags.as_slice(),
+        &early,
+    )?;
+    let critical = path_back(
+        alloc,
+        dag,
+        order.as_slice(),
+        early.last,
+        early.parents.as_slice(),
+    )?;
+    Ok(Schedule {
+        durations,
+        lags,
+        starts: early.starts,
+        finishes: early.finishes,
+        slack,
+        critical,
+        makespan: early.makespan,
+    })
 }
 
 // What the closure returns for each node.

@@ -1,16 +1,19 @@
 //! Earliest starts, computed in topological order.
-ghost use Rattle.std.specs.Prelude.{◌≡◌, ℕ, ◌≤◌, ◌<◌, ◌↔◌, ◌⊎◌, List, [], map, length, Err};
-ghost use Rattle.std.specs.Prelude.{IfOk, IsTrue};
+ghost use Rattle.std.specs.Prelude.{◌≡◌, ℕ, ◌+◌, ◌≤◌, ◌<◌, ◌↔◌, ◌⊎◌, List, [], map, length, Err};
+ghost use Rattle.std.specs.Prelude.{IfOk, OnOk, OnErr, IsTrue};
 ghost use Rattle.std.specs.Prelude.{vec_len, slice_index, slice_set};
 ghost use Rattle.daggy_base.specs.Graph.{HasNode, node_bound};
 ghost use Rattle.daggy_base.specs.Ordered.{IsOrderOf};
 ghost use Rattle.daggy_base.specs.Path.{AreJoined, IsPath};
-ghost use Rattle.daggy_schedule.specs.Times.{span, TakesTooLong, AreEarliest, IsZeroElsewhere};
-ghost use Rattle.daggy_schedule.specs.Times.{IsLowestLast, IsTracedBack};
+ghost use Rattle.daggy_schedule.specs.Times.{span, IsZeroElsewhere, IsLowestLast};
+ghost use Rattle.daggy_schedule.specs.Lags.{lags_along, TakesTooLongWithLags, AreEarliestWithLags};
+ghost use Rattle.daggy_schedule.specs.Lags.{IsTracedBackWithLags};
 ghost use Rattle.daggy_schedule.specs.Passes.{AreDelayed, AreNoted, IsLast, GoesBefore};
+ghost use Rattle.daggy_schedule.specs.Passes.{IsDelayedTooLong};
 ghost use Rattle.daggy_schedule.specs.declared.schedule.ScheduleError.TheVariants.{Overflow};
 
 use crate::schedule::ScheduleError;
+use crate::schedule::lags::lag_at;
 use daggy_base::index::{Direction, EdgeIndex, IndexType, NodeIndex};
 use daggy_base::link::Link;
 use daggy_base::read_store::ReadStore;
@@ -22,14 +25,15 @@ use std::alloc::{AllocError, Global};
 pub(super) struct Early<Ix: IndexType> {
     pub starts: Vec<u64>,
     pub finishes: Vec<u64>,
-    // By node index, the parent that finishes last, if there is any; ties go to the lowest index.
+    // By node index, the parent that the node waits for, if there is any: the one from which the lag
+    // of an edge ends last. Ties go to the lowest index.
     pub parents: Vec<Link<Ix>>,
     pub makespan: u64,
     pub last: NodeIndex<Ix>,
 }
 
-// Whether a node is recorded in preference to another: it finishes later, or at the same time and
-// has the lower index. Every node is preferred to `end` at time 0.
+// Whether a node is recorded in preference to another: its time is later, or it is the same and the
+// node has the lower index. Every node is preferred to `end` at time 0.
 fn goes_before<Ix: IndexType>(
     finish: u64,
     n: NodeIndex<Ix>,
@@ -41,8 +45,8 @@ fn goes_before<Ix: IndexType>(
     time < finish || (time == finish && n.index() < other.index())
 }
 
-// Delays a node until its parent `n` finishes, and records `n` if it is preferred to the parent
-// that was recorded.
+// Delays a node until the lag of an edge from its parent `n` ends, and records `n` if it is
+// preferred to the parent that was recorded.
 fn delay<Ix: IndexType>(
     starts: &mut Vec<u64>,
     parents: &mut Vec<Link<Ix>>,
@@ -66,32 +70,40 @@ fn delay<Ix: IndexType>(
     }
 }
 
-// Delays the children of a node until it finishes, and records it for each child whose recorded
-// parent it is preferred to.
+// Delays the children of a node until the lags of its edges have passed after it finishes, and
+// records it for each child whose recorded parent it is preferred to.
 fn delay_children<Ix: IndexType, S: ReadStore<Ix>>(
     store: &S,
     n: NodeIndex<Ix>,
     finish: u64,
+    lags: &[u64],
     starts: &mut Vec<u64>,
     parents: &mut Vec<Link<Ix>>,
-)
+) -> Result<(), ScheduleError>
     requires starts { node_bound (S.graph store.now) ≤ vec_len starts.old }
     requires parents { node_bound (S.graph store.now) ≤ vec_len parents.old }
-    ensures delayed { AreDelayed (S.graph store.now) (Ix.number n) finish starts.old.items
-        parents.old.items starts.new.items parents.new.items }
-    ensures starts { vec_len starts.new ≡ vec_len starts.old }
-    ensures parents { vec_len parents.new ≡ vec_len parents.old }
+    ensures delayed { OnOk result (AreDelayed (S.graph store.now) (Ix.number n) finish lags.now
+        starts.old.items parents.old.items starts.new.items parents.new.items) }
+    ensures starts { OnOk result (vec_len starts.new ≡ vec_len starts.old) }
+    ensures parents { OnOk result (vec_len parents.new ≡ vec_len parents.old) }
+    ensures overflow { OnErr result
+        (IsDelayedTooLong (S.graph store.now) (Ix.number n) finish lags.now) }
 {
     store.invariant();
     let end = EdgeIndex::<Ix>::end().index();
     let mut e = store.first_edge(n, Direction::Outgoing);
     'edges: while e.index() != end {
         let ends = store.edge_endpoints(e);
+        let lag = lag_at(lags, e);
         e = store.next_edge(e, Direction::Outgoing);
         if let Some((_parent, child)) = ends {
-            delay(starts, parents, child.index(), n, finish);
+            let Some(time) = finish.checked_add(lag) else {
+                return Err(ScheduleError::Overflow);
+            };
+            delay(starts, parents, child.index(), n, time);
         }
     }
+    Ok(())
 }
 
 // The later of two times, with its node; the lower of the two nodes if the times are equal.
@@ -118,14 +130,15 @@ pub(super) fn earliest<N: Drop, E: Drop, Ix: IndexType, S>(
     alloc: Global,
     dag: &Acyclic<N, E, Ix, S>,
     durations: &[u64],
+    lags: &[u64],
 ) -> Result<Early<Ix>, ScheduleError>
 where
     S: ReadStore<Ix, NodeWeight = N, EdgeWeight = E>,
     requires { node_bound dag.now.graph ≤ length durations.now }
     ensures noted { IfOk result (λ r. AreNoted Ix.greatest dag.now.graph durations.now
-        r.starts.items r.parents.items r.finishes.items) }
+        lags.now r.starts.items r.parents.items r.finishes.items) }
     ensures earliest { IfOk result (λ r.
-        AreEarliest dag.now.graph durations.now (slice_index r.starts.items)) }
+        AreEarliestWithLags dag.now.graph durations.now lags.now (slice_index r.starts.items)) }
     ensures last { IfOk result (λ r.
         IsLast Ix.greatest dag.now.graph r.finishes.items r.makespan (Ix.number r.last)) }
     ensures sized { IfOk result (λ r. (vec_len r.starts ≡ node_bound dag.now.graph)
@@ -133,7 +146,8 @@ where
         × (vec_len r.parents ≡ node_bound dag.now.graph)) }
     ensures elsewhere { IfOk result (λ r. IsZeroElsewhere dag.now.graph r.starts.items
         × IsZeroElsewhere dag.now.graph r.finishes.items) }
-    ensures overflow { result ≡ Err Overflow → TakesTooLong dag.now.graph durations.now }
+    ensures overflow { result ≡ Err Overflow
+        → TakesTooLongWithLags dag.now.graph durations.now lags.now }
 {
     let store = dag.graph();
     let bound = store.node_bound();
@@ -156,7 +170,7 @@ where
         let (time, node) = later_of(makespan, last, finish, n);
         makespan = time;
         last = node;
-        delay_children(store, n, finish, &mut starts, &mut parents);
+        delay_children(store, n, finish, lags, &mut starts, &mut parents)?;
     }
     Ok(Early {
         starts,
@@ -186,16 +200,18 @@ where
     requires last { (Ix.number last ≡ Ix.greatest) ⊎ HasNode dag.now.graph (Ix.number last) }
     ensures none { IfOk result (λ path. Ix.number last ≡ Ix.greatest
         → map Ix.number path.items ≡ []) }
-    ensures path { IfOk result (λ path. HasNode dag.now.graph (Ix.number last)
-        → IsPath dag.now.graph (map Ix.number path.items)) }
-    ensures sum { IfOk result (λ path. (durations starts finishes : List ℕ)
+    ensures sum { IfOk result (λ path. (durations lags starts finishes : List ℕ)
         → HasNode dag.now.graph (Ix.number last)
-        → AreNoted Ix.greatest dag.now.graph durations starts parents.now finishes
-        → span durations (map Ix.number path.items) ≡ slice_index finishes (Ix.number last)) }
-    ensures traced_back { IfOk result (λ path. (durations starts finishes : List ℕ)
+        → AreNoted Ix.greatest dag.now.graph durations lags starts parents.now finishes
+        → (p : IsPath dag.now.graph (map Ix.number path.items))
+        × (span durations (map Ix.number path.items)
+        + lags_along dag.now.graph lags (map Ix.number path.items) p
+        ≡ slice_index finishes (Ix.number last))) }
+    ensures traced_back { IfOk result (λ path. (durations lags starts finishes : List ℕ)
         → IsLowestLast (HasNode dag.now.graph) (slice_index finishes) (Ix.number last)
-        → AreNoted Ix.greatest dag.now.graph durations starts parents.now finishes
-        → IsTracedBack dag.now.graph (slice_index finishes) (map Ix.number path.items)) }
+        → AreNoted Ix.greatest dag.now.graph durations lags starts parents.now finishes
+        → IsTracedBackWithLags dag.now.graph (slice_index finishes) lags
+        (map Ix.number path.items)) }
 {
     let _count = dag.node_count();
     let end = NodeIndex::<Ix>::end().index();

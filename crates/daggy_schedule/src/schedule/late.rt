@@ -1,22 +1,26 @@
 //! The slack of each node, computed in reverse topological order.
-ghost use Rattle.std.specs.Prelude.{◌≡◌, ℕ, ◌≤◌, map, length, IfOk, vec_len, slice_index};
+ghost use Rattle.std.specs.Prelude.{◌≡◌, ℕ, ◌+◌, ◌≤◌, map, length, IfOk, vec_len, slice_index};
 ghost use Rattle.daggy_base.specs.Graph.{node_bound};
 ghost use Rattle.daggy_base.specs.Ordered.{IsOrderOf};
 ghost use Rattle.daggy_base.specs.Path.{AreJoined};
-ghost use Rattle.daggy_schedule.specs.Times.{AreEarliest, AreLatest, IsZeroElsewhere};
+ghost use Rattle.daggy_schedule.specs.Times.{IsZeroElsewhere};
+ghost use Rattle.daggy_schedule.specs.Lags.{AreEarliestWithLags, AreLatestWithLags};
 ghost use Rattle.daggy_schedule.specs.Passes.{AreNoted, IsLast, IsLatestFinish, later_by};
 
 use crate::schedule::early::Early;
+use crate::schedule::lags::lag_at;
 use daggy_base::index::{Direction, EdgeIndex, IndexType, NodeIndex};
 use daggy_base::read_store::ReadStore;
 use daggy_dag::acyclic::Acyclic;
 use std::alloc::{AllocError, Global};
 
-// The latest time at which a node can finish, from the latest starts of its children.
+// The latest time at which a node can finish, from the latest starts of its children and the lags of
+// the edges to them.
 fn latest_finish<Ix: IndexType, S: ReadStore<Ix>>(
     store: &S,
     n: NodeIndex<Ix>,
     makespan: u64,
+    lags: &[u64],
     starts: &[u64],
     slack: &[u64],
 ) -> u64
@@ -24,8 +28,10 @@ fn latest_finish<Ix: IndexType, S: ReadStore<Ix>>(
     requires slack { node_bound (S.graph store.now) ≤ length slack.now }
     requires low { (v : ℕ) → AreJoined (S.graph store.now) (Ix.number n) v
         → later_by starts.now slack.now v ≤ makespan }
-    ensures { IsLatestFinish (S.graph store.now) (Ix.number n) (later_by starts.now slack.now)
-        makespan result }
+    requires lags { (v : ℕ) (edge : AreJoined (S.graph store.now) (Ix.number n) v)
+        → slice_index lags.now edge.0 ≤ later_by starts.now slack.now v }
+    ensures { IsLatestFinish (S.graph store.now) (Ix.number n) lags.now
+        (later_by starts.now slack.now) makespan result }
 {
     store.invariant();
     let end = EdgeIndex::<Ix>::end().index();
@@ -33,10 +39,11 @@ fn latest_finish<Ix: IndexType, S: ReadStore<Ix>>(
     let mut e = store.first_edge(n, Direction::Outgoing);
     'edges: while e.index() != end {
         let ends = store.edge_endpoints(e);
+        let lag = lag_at(lags, e);
         e = store.next_edge(e, Direction::Outgoing);
         if let Some((_parent, child)) = ends {
             let i = child.index();
-            latest = latest.min(starts[i] + slack[i]);
+            latest = latest.min(starts[i] + slack[i] - lag);
         }
     }
     latest
@@ -65,14 +72,15 @@ pub(super) fn slack_of<N: Drop, E: Drop, Ix: IndexType, S>(
     dag: &Acyclic<N, E, Ix, S>,
     order: &[NodeIndex<Ix>],
     durations: &[u64],
+    lags: &[u64],
     early: &Early<Ix>,
 ) -> Result<Vec<u64>, AllocError>
 where
     S: ReadStore<Ix, NodeWeight = N, EdgeWeight = E>,
     requires ordered { IsOrderOf dag.now.graph (map Ix.number order.now) }
-    requires noted { AreNoted Ix.greatest dag.now.graph durations.now early.now.starts.items
-        early.now.parents.items early.now.finishes.items }
-    requires earliest { AreEarliest dag.now.graph durations.now
+    requires noted { AreNoted Ix.greatest dag.now.graph durations.now lags.now
+        early.now.starts.items early.now.parents.items early.now.finishes.items }
+    requires earliest { AreEarliestWithLags dag.now.graph durations.now lags.now
         (slice_index early.now.starts.items) }
     requires last { IsLast Ix.greatest dag.now.graph early.now.finishes.items early.now.makespan
         (Ix.number early.now.last) }
@@ -80,7 +88,7 @@ where
     requires finishes { vec_len early.now.finishes ≡ node_bound dag.now.graph }
     ensures sized { IfOk result (λ slack. vec_len slack ≡ node_bound dag.now.graph) }
     ensures elsewhere { IfOk result (λ slack. IsZeroElsewhere dag.now.graph slack.items) }
-    ensures latest { IfOk result (λ slack. AreLatest dag.now.graph durations.now
+    ensures latest { IfOk result (λ slack. AreLatestWithLags dag.now.graph durations.now lags.now
         (later_by early.now.starts.items slack.items) early.now.makespan) }
 {
     let store = dag.graph();
@@ -94,6 +102,7 @@ where
             store,
             n,
             early.makespan,
+            lags,
             early.starts.as_slice(),
             slack.as_slice(),
         );

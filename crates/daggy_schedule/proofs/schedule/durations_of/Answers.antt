@@ -1,8 +1,9 @@
 use Rattle.std.proofs.Common.{◌≡◌, ◌∙◌, ℕ, List, refl, sym, ap, subst, arith, vec_len, is_some}
 use Rattle.daggy_base.specs.Graph.{Graph, node_weight}
+use Rattle.daggy_base.proofs.OutEdgesRead.{below_bound}
 use Rattle.daggy_base.proofs.PathsWithNode.{bound_low}
 use Rattle.daggy_schedule.specs.Times.{AreDurations, IsZeroElsewhere}
-use Rattle.daggy_schedule.proofs.Durations.{called_one, called_none, called_all}
+use Rattle.daggy_schedule.proofs.Durations.{called_one, called_none}
 use Rattle.daggy_schedule.proofs.Starting.{resized}
 use Rattle.daggy_schedule.proofs.Elsewhere.{zeros_elsewhere, set_elsewhere}
 use Rattle.daggy_schedule.proofs.schedule.durations_of.Goals.{in-Some, in_default}
@@ -45,7 +46,7 @@ nodes-preserved g c =
           record {
             sized = ap vec_len w.durations-is ∙ s.sized;
             called =
-                called_one of post c.args.f graph i c.nodes.durations.items s.called w.in-Some.weight.now w.in-Some.weight
+                called_one of post c.args.f (node_weight graph) i c.nodes.durations.items s.called w.in-Some.weight.now w.in-Some.weight
                 (w.in-Some.ensures ∙ at) refl w.f.result (subst P c.new-n.ensures.value w.f.ensures)
                 (omega (arith, s.sized, c.nodes-test.true, c.nodes.durations.ok.0)) c.match-node_weight.durations.items
                 (ap (λ z. z.items) w.durations-is);
@@ -57,7 +58,7 @@ nodes-preserved g c =
           record {
             sized = ap vec_len w.durations-is ∙ s.sized;
             called =
-                called_none of post c.args.f graph i c.nodes.durations.items s.called (w.in_default.ensures ∙ at)
+                called_none of post c.args.f (node_weight graph) i c.nodes.durations.items s.called (w.in_default.ensures ∙ at)
                 c.match-node_weight.durations.items (ap (λ z. z.items) w.durations-is);
             elsewhere =
                 (let P : List ℕ → Type 0 = λ z. IsZeroElsewhere graph z in
@@ -77,5 +78,5 @@ returns-clause-called g c =
     let post = goal.F-post g in
     let P : Graph _ _ → Type 0 = λ z. AreDurations of post c.args.f z c.nodes.durations.items in
     subst P c.graph-store.ensures.graph
-    (called_all of post c.args.f graph c.nodes.i c.nodes.durations.items c.nodes.invariant.called c.node_bound-bound.result
-    c.node_bound-bound.ensures.value (omega (arith, c.nodes-test.false)))
+    (λ n w has. c.nodes.invariant.called n w has
+    (omega (arith, c.node_bound-bound.ensures.value, c.nodes-test.false, below_bound graph.nodes n (ap is_some has))))

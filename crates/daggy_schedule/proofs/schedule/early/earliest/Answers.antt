@@ -4,11 +4,12 @@ use Rattle.std.proofs.lemmas.List.{get_or_read}
 use Rattle.daggy_base.specs.Graph.{Graph, node_bound}
 use Rattle.daggy_base.specs.Ordered.{IsOrderOf}
 use Rattle.daggy_base.proofs.OutEdgesRead.{below_bound}
-use Rattle.daggy_schedule.specs.Times.{AreEarliest, IsZeroElsewhere, TakesTooLong}
+use Rattle.daggy_schedule.specs.Times.{IsZeroElsewhere}
+use Rattle.daggy_schedule.specs.Lags.{AreEarliestWithLags, TakesTooLongWithLags}
 use Rattle.daggy_schedule.specs.Passes.{AreNoted, IsLast}
 use Rattle.daggy_schedule.proofs.Starting.{resized}
 use Rattle.daggy_schedule.proofs.Elsewhere.{zeros_elsewhere, set_elsewhere, delayed_elsewhere}
-use Rattle.daggy_schedule.proofs.Timing.{Timing, timing_none, timing_one, next_exists, takes_too_long}
+use Rattle.daggy_schedule.proofs.Timing.{Timing, timing_none, timing_one, next_exists, takes_too_long, lasts_too_long}
 use Rattle.daggy_schedule.proofs.Timing.{all_noted, all_earliest, last_finish}
 use Rattle.daggy_schedule.proofs.schedule.early.earliest.Given.{Over}
 use Rattle.daggy_schedule.proofs.schedule.early.earliest.Goals.{After-index-i, After-index-start}
@@ -49,6 +50,7 @@ nodes-init g c =
     let graph = g.S.EdgeSource.graph c.graph-store.result.now in
     let order = c.topological_order-nodes.result in
     let d = c.args.durations.now in
+    let lags = c.args.lags.now in
     let bound = c.node_bound-bound.result in
     let last = number c.end-last.result in
     let starts : c.resize.new.self.items ≡ replicate bound 0 =
@@ -60,12 +62,12 @@ nodes-init g c =
     c.in_ok-resize-3.ensures.items in
     let zeros : List ℕ = replicate bound 0 in
     let none =
-    timing_none end graph order d {k = bound} {e = c.end.result} {time = 0} {last = last} c.node_bound-bound.ensures.value
+    timing_none end graph order d lags {k = bound} {e = c.end.result} {time = 0} {last = last} c.node_bound-bound.ensures.value
     c.end.ensures.value refl c.end-last.ensures.number in
-    let P : List ℕ → Type 0 = λ z. Timing end graph order d zeros (replicate bound c.end.result) z 0 last order in
-    let Q : List ℕ → Type 0 = λ z. Timing end graph order d zeros z c.resize-2.new.self.items 0 last order in
+    let P : List ℕ → Type 0 = λ z. Timing end graph order d lags zeros (replicate bound c.end.result) z 0 last order in
+    let Q : List ℕ → Type 0 = λ z. Timing end graph order d lags zeros z c.resize-2.new.self.items 0 last order in
     let R : List ℕ → Type 0 = λ z.
-    Timing end graph order d z c.resize-3.new.self.items c.resize-2.new.self.items 0 last order in
+    Timing end graph order d lags z c.resize-3.new.self.items c.resize-2.new.self.items 0 last order in
     let O : Graph _ _ → Type 0 = λ z. IsOrderOf z order in
     record {
       starts_sized = omega (arith, c.in_ok-resize.ensures.len, c.node_bound-bound.ensures.value);
@@ -105,7 +107,7 @@ pub returns-in_default-checked_add-clause-overflow : goal.returns-in_default-che
 returns-in_default-checked_add-clause-overflow g c _ =
     let at = goal.at.returns-in_default-checked_add-clause-overflow g c in
     let s = c.nodes.invariant.timing in
-    let P : Graph _ _ → Type 0 = λ z. TakesTooLong z c.args.durations.now in
+    let P : Graph _ _ → Type 0 = λ z. TakesTooLongWithLags z c.args.durations.now c.args.lags.now in
     subst P c.graph-store.ensures.graph
     (takes_too_long c.node_bound-bound.ensures.well_formed s.ordered c.in-Some.ensures.steps s.timing
     (omega (
@@ -130,11 +132,11 @@ nodes-preserved g c =
     let number = g.Ix.IndexType.number in
     let s = c.nodes.invariant in
     record {
-      starts_sized = c.delay_children.ensures.starts ∙ s.starts_sized;
-      parents_sized = c.delay_children.ensures.parents ∙ s.parents_sized;
+      starts_sized = c.in_ok-delay_children.ensures.starts ∙ s.starts_sized;
+      parents_sized = c.in_ok-delay_children.ensures.parents ∙ s.parents_sized;
       finishes_sized = s.finishes_sized;
       starts_elsewhere =
-          delayed_elsewhere (g.S.EdgeSource.graph c.graph-store.result.now) c.node_bound-bound.ensures.well_formed c.delay_children.ensures.delayed s.starts_elsewhere;
+          delayed_elsewhere (g.S.EdgeSource.graph c.graph-store.result.now) c.node_bound-bound.ensures.well_formed c.in_ok-delay_children.ensures.delayed s.starts_elsewhere;
       finishes_elsewhere =
           set_elsewhere (g.S.EdgeSource.graph c.graph-store.result.now) _ _ _ _
           (next_exists c.node_bound-bound.ensures.well_formed s.timing.ordered c.in-Some.ensures.steps s.timing.timing)
@@ -153,16 +155,32 @@ nodes-preserved g c =
             ))
             c.index-i.result c.index-i.ensures.value
             (omega (arith, low g at.After-index-i, s.finishes_sized, c.nodes.finishes.ok.0))
-            c.delay_children.ensures.delayed
+            c.in_ok-delay_children.ensures.delayed
             (λ h. let e = c.later_of-time.ensures.later h in (e.0, ap number e.1))
             (λ h. let e = c.later_of-time.ensures.taken h in (e.0, ap number e.1));
       };
     }
 
+pub returns-in_err-delay_children-clause-overflow : goal.returns-in_err-delay_children-clause-overflow
+returns-in_err-delay_children-clause-overflow g c _ =
+    let at = goal.at.returns-in_err-delay_children-clause-overflow g c in
+    let s = c.nodes.invariant.timing in
+    let P : Graph _ _ → Type 0 = λ z. TakesTooLongWithLags z c.args.durations.now c.args.lags.now in
+    subst P c.graph-store.ensures.graph
+    (lasts_too_long c.node_bound-bound.ensures.well_formed s.ordered c.in-Some.ensures.steps s.timing
+    c.in-Some-checked_add.finish
+    (omega (
+      arith,
+      c.in-Some-checked_add.ensures.1,
+      start_is g at.After-index-start,
+      ap (λ z. get_or c.args.durations.now z 0) c.index-i.ensures.value,
+    ))
+    c.in_err-delay_children.ensures.overflow)
+
 pub returns-clause-noted : goal.returns-clause-noted
 returns-clause-noted g c =
     let s = c.nodes.invariant.timing in
-    let P : Graph _ _ → Type 0 = λ z. AreNoted g.Ix.IndexType.greatest z c.args.durations.now c.nodes.starts.items
+    let P : Graph _ _ → Type 0 = λ z. AreNoted g.Ix.IndexType.greatest z c.args.durations.now c.args.lags.now c.nodes.starts.items
     c.nodes.parents.items c.nodes.finishes.items in
     subst P c.graph-store.ensures.graph
     (all_noted c.node_bound-bound.ensures.well_formed s.ordered c.in_default.ensures.steps.0 s.timing)
@@ -171,7 +189,7 @@ pub returns-clause-earliest : goal.returns-clause-earliest
 returns-clause-earliest g c =
     let s = c.nodes.invariant.timing in
     let P : Graph _ _ → Type 0 = λ z.
-    AreEarliest z c.args.durations.now (λ n. get_or c.nodes.starts.items n 0) in
+    AreEarliestWithLags z c.args.durations.now c.args.lags.now (λ n. get_or c.nodes.starts.items n 0) in
     subst P c.graph-store.ensures.graph
     (all_earliest c.node_bound-bound.ensures.well_formed s.ordered c.in_default.ensures.steps.0 s.timing)
 

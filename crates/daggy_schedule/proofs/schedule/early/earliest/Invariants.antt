@@ -12,7 +12,7 @@ invariant-nodes g l =
       finishes_sized : vec_len l.finishes ≡ node_bound (g.S.EdgeSource.graph l.store);
       starts_elsewhere : IsZeroElsewhere (g.S.EdgeSource.graph l.store) l.starts.items;
       finishes_elsewhere : IsZeroElsewhere (g.S.EdgeSource.graph l.store) l.finishes.items;
-      timing : IsTiming g.Ix.IndexType.greatest (g.S.EdgeSource.graph l.store) l.durations l.starts.items
+      timing : IsTiming g.Ix.IndexType.greatest (g.S.EdgeSource.graph l.store) l.durations l.lags l.starts.items
           l.parents.items l.finishes.items l.makespan (g.Ix.IndexType.number l.last) l.nodes;
     }
 

@@ -4,7 +4,7 @@ use Rattle.std.proofs.lemmas.List.{map-append, get_or_default}
 use Rattle.daggy_base.specs.Path.{AreJoined}
 use Rattle.daggy_base.proofs.OutEdgesRead.{below_bound}
 use Rattle.daggy_schedule.proofs.PathBack.{map_reverse}
-use Rattle.daggy_schedule.proofs.PathBack.{chains_one, not_end, chain_path, chain_sum, chain_traced}
+use Rattle.daggy_schedule.proofs.PathBack.{chains_one, not_end, chain_sum, chain_traced}
 use Rattle.daggy_schedule.proofs.schedule.early.path_back.Given.{Over}
 use Rattle.daggy_schedule.proofs.schedule.early.path_back.Goals.{After-push, After-node-parent}
 use Rattle.daggy_schedule.proofs.schedule.early.path_back.Goals as goal
@@ -36,12 +36,12 @@ parent_is g c =
 pub returns-then-index-end-clause-sum : goal.returns-then-index-end-clause-sum
 returns-then-index-end-clause-sum g c =
     let is : g.Ix.IndexType.number c.args.last ≡ g.Ix.IndexType.greatest = cc in
-    λ d ss fs h a. absurd (not_end c.node_count-count.ensures.dag.well_formed (g.Ix.IndexType.number c.args.last) h is)
+    λ d ls ss fs h a. absurd (not_end c.node_count-count.ensures.dag.well_formed (g.Ix.IndexType.number c.args.last) h is)
 
 pub returns-then-index-end-clause-traced_back : goal.returns-then-index-end-clause-traced_back
 returns-then-index-end-clause-traced_back g c =
     let is : g.Ix.IndexType.number c.args.last ≡ g.Ix.IndexType.greatest = cc in
-    λ d ss fs l a. absurd
+    λ d ls ss fs l a. absurd
     (not_end c.node_count-count.ensures.dag.well_formed (g.Ix.IndexType.number c.args.last) l.here is)
 
 pub offset_bounds-parents-index : goal.offset_bounds-parents-index
@@ -56,17 +56,8 @@ pub bounds-parents-index : goal.bounds-parents-index
 bounds-parents-index g c =
     omega (arith, low g (goal.at.bounds-parents-index g c).After-push, c.index-in-path.ensures.value)
 
-pub returns-then-index-end-2-clause-path : goal.returns-then-index-end-2-clause-path
-returns-then-index-end-2-clause-path g c h =
-    let number = g.Ix.IndexType.number in
-    chain_path c.node_count-count.ensures.dag.well_formed c.path.invariant (map number c.reverse.new.self.items)
-    (ap (map number) c.reverse.ensures.items
-    ∙ (map_reverse number c.push.new.self.items
-    ∙ ap reverse
-    (ap (map number) c.in_ok-push.ensures.items ∙ map-append number c.path.path.items (c.path.n ∷ []))))
-
 pub returns-then-index-end-2-clause-sum : goal.returns-then-index-end-2-clause-sum
-returns-then-index-end-2-clause-sum g c d ss fs h a =
+returns-then-index-end-2-clause-sum g c d ls ss fs h a =
     let number = g.Ix.IndexType.number in
     let ended : number c.node-parent.result ≡ g.Ix.IndexType.greatest = cc in
     let none = sym (parent_is g (goal.at.returns-then-index-end-2-clause-sum g c).After-node-parent) ∙ ended in
@@ -75,10 +66,10 @@ returns-then-index-end-2-clause-sum g c d ss fs h a =
     ∙ (map_reverse number c.push.new.self.items
     ∙ ap reverse
     (ap (map number) c.in_ok-push.ensures.items ∙ map-append number c.path.path.items (c.path.n ∷ []))))
-    none d ss fs a
+    none d ls ss fs a
 
 pub returns-then-index-end-2-clause-traced_back : goal.returns-then-index-end-2-clause-traced_back
-returns-then-index-end-2-clause-traced_back g c d ss fs l a =
+returns-then-index-end-2-clause-traced_back g c d ls ss fs l a =
     let number = g.Ix.IndexType.number in
     let ended : number c.node-parent.result ≡ g.Ix.IndexType.greatest = cc in
     let none = sym (parent_is g (goal.at.returns-then-index-end-2-clause-traced_back g c).After-node-parent) ∙ ended in
@@ -87,7 +78,7 @@ returns-then-index-end-2-clause-traced_back g c d ss fs l a =
     ∙ (map_reverse number c.push.new.self.items
     ∙ ap reverse
     (ap (map number) c.in_ok-push.ensures.items ∙ map-append number c.path.path.items (c.path.n ∷ []))))
-    none d ss fs l a
+    none d ls ss fs l a
 
 pub path-smaller : goal.path-smaller
 path-smaller g c =

@@ -8,7 +8,7 @@ use Rattle.daggy_schedule.proofs.schedule.late.latest_finish.Given as goal
 abbrev pub invariant-edges : goal.invariant-edges
 invariant-edges g l =
     Lowering g.Ix.IndexType.greatest (g.S.EdgeSource.graph l.store) (g.Ix.IndexType.number l.fn.n)
-    (later_by l.starts l.slack) l.makespan (g.Ix.IndexType.number l.e) l.latest
+    l.lags (later_by l.starts l.slack) l.makespan (g.Ix.IndexType.number l.e) l.latest
 
 abbrev pub decreases-edges : goal.decreases-edges
 decreases-edges g l =

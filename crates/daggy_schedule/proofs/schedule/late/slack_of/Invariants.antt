@@ -11,7 +11,7 @@ invariant-nodes g l =
       sized : vec_len l.slack ≡ node_bound l.dag.graph;
       within : l.k ≤ length l.order;
       elsewhere : IsZeroElsewhere l.dag.graph l.slack.items;
-      slackening : Slackening l.dag.graph l.durations (later_by l.early.starts.items l.slack.items) l.early.makespan
+      slackening : Slackening l.dag.graph l.durations l.lags (later_by l.early.starts.items l.slack.items) l.early.makespan
           (drop l.k (map g.Ix.IndexType.number l.order));
     }
 
