@@ -3,3 +3,10 @@ pub mod Marks
 pub mod PartSlots
 pub mod Wholes
 pub mod CommonAncestors
+pub mod Pairs
+pub mod Closed
+pub mod Members
+pub mod Ways
+pub mod Steps
+pub mod Distances
+pub mod PathsListed

@@ -1,3 +1,5 @@
 pub mod Parts
 pub mod Operators
 pub mod Common
+pub mod Closure
+pub mod SimplePaths

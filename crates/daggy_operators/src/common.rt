@@ -127,7 +127,7 @@ fn marked_nodes<Ix: IndexType>(
 /// and have no descendant that also reaches both.
 ///
 /// A node reaches itself, so if `a` reaches `b`, then `a` is the only lowest common ancestor. If
-/// `a` or `b` is not a node of the dag, there is none.
+/// `a` or `b` is not a node of the dag, the list is empty.
 ///
 /// # Errors
 ///

@@ -62,7 +62,7 @@ where
 /// The dag with each edge reversed, at the same indices. The weights of the nodes are borrowed; the
 /// weight of an edge is in the dag, at the same index. Each list is in descending index order.
 ///
-/// In it, `a` reaches `b` if and only if `b` reaches `a` in the dag.
+/// In the reversed dag, `a` reaches `b` if and only if `b` reaches `a` in `dag`.
 ///
 /// # Errors
 ///

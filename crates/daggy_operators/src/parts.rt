@@ -1,4 +1,4 @@
-//! A chosen subgraph of a dag, as slots and as a dag.
+//! The slots of a subgraph, and the dag made from them.
 ghost use Rattle.std.specs.Prelude.{◌≡◌, ℕ, ◌<◌, ◌≤◌, ◌↔◌, false, true, IfOk, Contains, map, replicate};
 ghost use Rattle.std.specs.Prelude.{length, vec_len, slice_index_or, option_copied};
 ghost use Rattle.std.specs.Option.{option_map};
@@ -14,7 +14,7 @@ use daggy_dag::acyclic::{Acyclic, StableDag};
 use std::alloc::{AllocError, Global};
 
 // The ends of an edge.
-type Slot<Ix> = Option<(NodeIndex<Ix>, NodeIndex<Ix>, ())>;
+pub(crate) type Slot<Ix> = Option<(NodeIndex<Ix>, NodeIndex<Ix>, ())>;
 
 // For each slot of a node, whether its index is among those given.
 pub(crate) fn marks_of<Ix: IndexType>(
@@ -47,7 +47,7 @@ pub(crate) fn all_marks(alloc: Global, slots: usize, mark: bool) -> Result<Vec<b
 }
 
 // The weights of the marked nodes.
-fn node_slots<'d, Ix: IndexType, S: ReadStore<Ix>>(
+pub(crate) fn node_slots<'d, Ix: IndexType, S: ReadStore<Ix>>(
     alloc: Global,
     store: &'d S,
     marks: &Vec<bool>,

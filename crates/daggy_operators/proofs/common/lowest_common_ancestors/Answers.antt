@@ -1,4 +1,4 @@
-use Rattle.std.proofs.Common.{◌≡◌, ◌<◌, ◌↔◌, ◌∙◌, ℕ, List, Bool, Some, true, false, map, length, vec_len, Contains, sym, ap, subst}
+use Rattle.std.proofs.Common.{◌≡◌, ◌<◌, ◌↔◌, ◌∙◌, ℕ, List, Some, true, false, map, length, vec_len, Contains, ap, subst}
 use Rattle.daggy_base.specs.Graph.{Graph, Edge, edge_at}
 use Rattle.daggy_base.specs.Path.{Reaches}
 use Rattle.daggy_operators.specs.Parts.{mark_of}
