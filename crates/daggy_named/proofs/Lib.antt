@@ -11,3 +11,4 @@ pub mod DependenciesSet
 pub mod PlansByKey
 pub mod WorkCounts
 pub mod Durations
+pub mod KeyedNodes

@@ -23,6 +23,10 @@ pub what_is : {A : Type 0} (o : Option A) → is_some o ≡ true → (x : A) × 
 what_is None h = absurd (false≢true h)
 what_is (Some x) h = (x, refl)
 
+pub nothing_is : {A : Type 0} (o : Option A) → is_some o ≡ false → o ≡ None
+nothing_is None h = refl
+nothing_is (Some x) h = absurd (false≢true (sym h))
+
 pub slot_within : {A : Type 0} (xs : List (Option A)) (n : ℕ) (x : A) → slot xs n ≡ Some x
     → slice_get xs n ≡ Some (Some x)
 slot_within [] n x at = absurd cc

@@ -1,18 +1,26 @@
--- How many nodes a work has not returned yet, and how many are in progress.
-use Rattle.std.proofs.Common.{◌≡◌, ◌≢◌, ℕ, zero, suc, ◌+◌, ◌≤◌, ◌↔◌, ◌⊎◌, inl, inr, ◌&&◌, not, Bool, true, false, cond, List}
+-- How many nodes a work has not returned yet; when it is over, and none failed; and nodes that are skipped.
+use Rattle.std.proofs.Common.{◌≡◌, ◌≢◌, ℕ, zero, suc, ◌+◌, ◌≤◌, ◌↔◌, inl, inr, ◌&&◌, not, Bool, true, false, List}
 use Rattle.std.proofs.Common.{[], ◌∷◌, map, length, Option, Some, None, IsSome, is_some, refl, sym, ap, subst, ◌∙◌, arith}
+use Rattle.std.proofs.Common.{cond, Contains}
+use Rattle.std.specs.Bool.{if◌then◌else◌}
 use Rattle.std.specs.Cmp.{both_ways}
-use Rattle.std.specs.List.{count_by}
+use Rattle.std.specs.List.{All, count_by, range_with_len}
 use Rattle.std.proofs.lemmas.Bool.{false≢true}
 use Rattle.std.proofs.lemmas.Bool.Decides.{nat_tests}
 use Rattle.std.proofs.lemmas.List.Sums.{sum_by-cons, count_by-le-length}
 use Rattle.daggy_base.specs.Graph.{Graph, HasNode, slot, node_count}
 use Rattle.daggy_base.specs.Iterating.{numbered, node_identifiers}
-use Rattle.daggy_base.proofs.Lists.{Mem, Unique}
+use Rattle.daggy_base.proofs.Lists.{Mem, Unique, mem_contains, contains_mem}
+use Rattle.daggy_base.proofs.PathEnds.{reached_exists}
+use Rattle.daggy_schedule.specs.Fallible.{FallibleWork, HandsOut, IsOver, IsSkipped, IsUnderWayWithFailures, set_count}
 use Rattle.daggy_schedule.specs.Queue.{count_of}
-use Rattle.daggy_schedule.specs.Work.{Work, IsSet, IsOut, IsUnderWay, is_set, is_among}
-use Rattle.daggy_schedule.proofs.Counts.{count_falls}
-use Rattle.daggy_named.specs.Working.{IsCounted, BeginsFirst, remaining_of, out_count_of}
+use Rattle.daggy_schedule.specs.Work.{Work, IsIdle, IsUnderWay, is_set, is_among, is_waiting, waiting_count}
+use Rattle.daggy_schedule.proofs.Counts.{count_all, count_falls, count_is, count_none, count_zero}
+use Rattle.daggy_schedule.proofs.Keeping.{unset_flag}
+use Rattle.daggy_schedule.proofs.Members.{among_in, among_out, distinct_unique}
+use Rattle.daggy_schedule.proofs.Tallies.{count_apart, set_there}
+use Rattle.daggy_named.specs.Working.{remaining_of}
+use Rattle.daggy_named.proofs.NamedNodes.{each_member}
 
 -- the indices of the occupied slots, counted from i
 abbrev ids : {A : Type 0} → ℕ → List (Option A) → List ℕ
@@ -46,117 +54,103 @@ module _ {A : Type 0} where
   ids_count i (Some x ∷ xs) =
       omega (arith, ids_count (i + 1) xs, sum_by-cons (λ x. cond (is_some x) 1 0) (Some x) xs)
 
-same_count : (p : ℕ → Bool) (xs : List ℕ) → count_by p xs ≡ count_of p xs
-same_count p [] = refl
-same_count p (x ∷ xs) = sum_by-cons (λ x. cond (p x) 1 0) x xs ∙ ap (λ k. cond (p x) 1 0 + k) (same_count p xs)
+abbrev one : Bool → ℕ
+one b = if b then 1 else 0
 
-all_pass : (p : ℕ → Bool) (xs : List ℕ) → ((n : ℕ) → p n ≡ true) → count_by p xs ≡ length xs
-all_pass p [] h = refl
-all_pass p (x ∷ xs) h =
-    omega (
-      arith,
-      sum_by-cons (λ x. cond (p x) 1 0) x xs,
-      ap {B = ℕ} (λ b. cond b 1 0) (h x),
-      all_pass p xs h,
-    )
-
-none_passes : (p : ℕ → Bool) (xs : List ℕ) → ((n : ℕ) → p n ≡ false) → count_by p xs ≡ 0
-none_passes p [] h = refl
-none_passes p (x ∷ xs) h =
-    omega (
-      arith,
-      sum_by-cons (λ x. cond (p x) 1 0) x xs,
-      ap {B = ℕ} (λ b. cond b 1 0) (h x),
-      none_passes p xs h,
-    )
-
-unset : (b : Bool) → (b ≡ true → ⊥) → b ≡ false
-unset false h = refl
-unset true h = absurd (h refl)
+-- each that passes the first test passes one of the two others
+count_sum : (p q r : ℕ → Bool) (xs : List ℕ) → ((n : ℕ) → one (p n) ≡ one (q n) + one (r n))
+    → count_of p xs ≡ count_of q xs + count_of r xs
+count_sum p q r [] each = refl
+count_sum p q r (x ∷ xs) each = omega (arith, each x, count_sum p q r xs each)
 
 module _ {N E : Type 0} (g : Graph N E) where
+  node_there : (n : ℕ) → HasNode g n → Mem n (node_identifiers g)
+  node_there n has = subst (λ k. Mem k (node_identifiers g)) (omega arith) (ids_have 0 g.nodes n has)
+
   -- of two tests that differ only at one node, the one that it fails counts one node less
   one_less : (p q : ℕ → Bool) (n : ℕ) → HasNode g n → p n ≡ true → q n ≡ false → ((k : ℕ) → k ≢ n → q k ≡ p k)
       → count_by q (node_identifiers g) + 1 ≡ count_by p (node_identifiers g)
   one_less p q n has passes fails other =
-      let nodes = node_identifiers g in
-      let there : Mem n nodes = subst (λ k. Mem k nodes) (omega arith) (ids_have 0 g.nodes n has) in
       omega (
         arith,
-        same_count p nodes,
-        same_count q nodes,
-        count_falls p q n nodes (ids_once 0 g.nodes) there passes fails other,
+        count_is p (node_identifiers g),
+        count_is q (node_identifiers g),
+        count_falls p q n (node_identifiers g) (ids_once 0 g.nodes) (node_there n has) passes fails other,
       )
 
-  pub out_count_low : (work : Work) → out_count_of g work ≤ node_count g
-  out_count_low work =
+  pub remaining_low : (work : Work) → remaining_of g work ≤ node_count g
+  remaining_low work =
       omega (
         arith,
-        count_by-le-length (λ n. is_set work.out n && not (is_set work.done n)) (node_identifiers g),
+        count_by-le-length (λ n. not (is_set work.out n)) (node_identifiers g),
         ids_count 0 g.nodes,
       )
 
-  pub counted_first : (work : Work) → ((n : ℕ) → IsSet work.out n → ⊥) → IsUnderWay g work → (count : ℕ) → count ≡ node_count g
-      → IsCounted g work count 0
-  counted_first work none under count is =
-      let free : (n : ℕ) → is_set work.out n ≡ false = λ n. unset (is_set work.out n) (none n) in
-      record {
-        under_way = under;
-        remaining_is =
-            is ∙ sym (ids_count 0 g.nodes) ∙ sym (all_pass (λ n. not (is_set work.out n)) (node_identifiers g) (λ n. ap not (free n)));
-        out_count_is =
-            sym (none_passes (λ n. is_set work.out n && not (is_set work.done n)) (node_identifiers g)
-            (λ n. ap (λ b. b && not (is_set work.done n)) (free n)));
-      }
+  module _ {work : Work} (under : IsUnderWay g work) where
+    -- a node that was not returned either is ready or waits
+    apart : (among out : Bool) → (among ≡ true → out ≡ false) → one (not out) ≡ one among + one (not among && not out)
+    apart true out free = ap (λ b. one (not b)) (free refl)
+    apart false out free = omega arith
+
+    all_ready : count_of (is_among work.ready) (node_identifiers g) ≡ length work.ready
+    all_ready =
+        count_apart (is_among work.ready) (node_identifiers g) work.ready (ids_once 0 g.nodes) (distinct_unique work.ready under.once)
+        (λ n among m. contains_mem work.ready n (among_out work.ready n among))
+        (λ n among m. node_there n ((under.ready n).0 among).0.0)
+        ∙ count_all (is_among work.ready) work.ready (λ n m. among_in work.ready n (mem_contains work.ready n m))
+
+    pub remaining_parts : length work.ready + waiting_count g work ≡ remaining_of g work
+    remaining_parts =
+        omega (
+          arith,
+          all_ready,
+          count_is (is_waiting work) (node_identifiers g),
+          count_is (λ n. not (is_set work.out n)) (node_identifiers g),
+          count_sum (λ n. not (is_set work.out n)) (is_among work.ready) (is_waiting work) (node_identifiers g)
+              (λ n. apart (is_among work.ready n) (is_set work.out n)
+              (λ among. unset_flag work.out n ((under.ready n).0 among).1)),
+        )
 
   -- the first ready node is returned
-  module _ {old new : Work} (under : IsUnderWay g old) {n : ℕ} (begins : BeginsFirst n old new) where
+  module _ {old new : Work} (under : IsUnderWay g old) {n : ℕ} (first : HandsOut n old new) where
     is_ready : is_among old.ready n ≡ true
-    is_ready = subst (λ ready. is_among ready n ≡ true) (sym begins.first) (grind (arith, nat_tests))
+    is_ready = subst (λ ready. is_among ready n ≡ true) (sym first.first) (grind (arith, nat_tests))
 
     pub first_exists : HasNode g n
     first_exists = ((under.ready n).0 is_ready).0.0
 
-    was_free : is_set old.out n ≡ false
-    was_free = unset (is_set old.out n) ((under.ready n).0 is_ready).1
-
     others : (k : ℕ) → k ≢ n → is_set new.out k ≡ is_set old.out k
     others k ne =
         both_ways (is_set new.out k) (is_set old.out k)
-        (λ h. elim ((begins.out k).0 h) [ inl o ↦ o | inr is ↦ absurd (ne is) ])
-        (λ h. (begins.out k).1 (inl h))
+        (λ h. elim ((first.out k).0 h) [ inl o ↦ o | inr is ↦ absurd (ne is) ])
+        (λ h. (first.out k).1 (inl h))
 
     pub remaining_less : remaining_of g new + 1 ≡ remaining_of g old
     remaining_less =
-        one_less (λ k. not (is_set old.out k)) (λ k. not (is_set new.out k)) n first_exists (ap not was_free)
-        (ap not begins.is_out.0) (λ k ne. ap not (others k ne))
+        one_less (λ k. not (is_set old.out k)) (λ k. not (is_set new.out k)) n first_exists
+        (ap not (unset_flag old.out n ((under.ready n).0 is_ready).1)) (ap not ((first.out n).1 (inr refl)))
+        (λ k ne. ap not (others k ne))
 
-    pub out_count_more : out_count_of g new ≡ out_count_of g old + 1
-    out_count_more =
-        sym (one_less (λ k. is_set new.out k && not (is_set new.done k)) (λ k. is_set old.out k && not (is_set old.done k)) n
-        first_exists
-        (ap (λ b. b && not (is_set new.done n)) begins.is_out.0 ∙ ap not (unset (is_set new.done n) begins.is_out.1))
-        (ap (λ b. b && not (is_set old.done n)) was_free)
-        (λ k ne. ap (λ b. b && not (is_set old.done k)) (sym (others k ne))
-        ∙ ap (λ d. is_set new.out k && not (is_set d k)) (sym begins.done)))
+-- the work is over and none failed if and only if it is idle
+module _ (w : FallibleWork) where
+  abbrev indices : List ℕ
+  indices = range_with_len 0 (length w.failed)
 
-  -- a node that is in progress is done
-  module _ {old : Work} (new : Work) (under : IsUnderWay g old) {n : ℕ} (is_out : IsOut old n) (same : new.out ≡ old.out)
-      (done : (m : ℕ) → IsSet new.done m ↔ (IsSet old.done m ⊎ (m ≡ n))) where
-    pub remaining_same : remaining_of g new ≡ remaining_of g old
-    remaining_same = ap (λ out. count_by (λ k. not (is_set out k)) (node_identifiers g)) same
+  pub over_idle : IsOver w → set_count w.failed ≡ 0 → IsIdle w.work
+  over_idle over none = (over.0, λ n out. over.1 n (out, unfailed n))
+    where
+      unfailed : (n : ℕ) → is_set w.failed n ≡ true → ⊥
+      unfailed n failed =
+          false≢true (sym (count_zero (is_set w.failed) indices (sym (count_is (is_set w.failed) indices) ∙ none) n
+          (set_there w.failed n failed)) ∙ failed)
 
-    pub out_count_less : out_count_of g new + 1 ≡ out_count_of g old
-    out_count_less =
-        one_less (λ k. is_set old.out k && not (is_set old.done k)) (λ k. is_set new.out k && not (is_set new.done k)) n
-        (under.out n is_out.0).0
-        (ap (λ b. b && not (is_set old.done n)) is_out.0 ∙ ap not (unset (is_set old.done n) is_out.1))
-        (ap (λ out. is_set out n && not (is_set new.done n)) same ∙ ap (λ b. is_set old.out n && not b) ((done n).1 (inr refl))
-        ∙ none (is_set old.out n))
-        (λ k ne. ap (λ out. is_set out k && not (is_set new.done k)) same
-        ∙ ap (λ b. is_set old.out k && not b) (both_ways (is_set new.done k) (is_set old.done k)
-        (λ h. elim ((done k).0 h) [ inl o ↦ o | inr is ↦ absurd (ne is) ]) (λ h. (done k).1 (inl h))))
-      where
-        none : (b : Bool) → (b && false) ≡ false
-        none false = refl
-        none true = refl
+  pub idle_none : {N E : Type 0} {g : Graph N E} → IsUnderWayWithFailures g w → IsIdle w.work → set_count w.failed ≡ 0
+  idle_none under idle =
+      count_is (is_set w.failed) indices
+      ∙ count_none (is_set w.failed) indices (λ n m. unset_flag w.failed n (λ failed. idle.1 n (under.failed n failed)))
+
+-- the nodes that are skipped exist
+pub skipped_exist : {N E : Type 0} (g : Graph N E) (w : FallibleWork) (nodes : List ℕ)
+    → ((n : ℕ) → Contains nodes n ↔ IsSkipped g w n) → All (HasNode g) nodes
+skipped_exist g w nodes exact =
+    each_member (HasNode g) nodes (λ n there. (let s = (exact n).0 there in reached_exists g s.0.0 n s.0.2))

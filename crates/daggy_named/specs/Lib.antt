@@ -7,3 +7,4 @@ pub mod Dependencies
 pub mod Planned
 pub mod Working
 pub mod Scheduled
+pub mod Keyed

@@ -6,7 +6,7 @@ ghost use Rattle.daggy_named.specs.Dependencies.{items_of};
 
 use thiserror::Error;
 
-/// A node was not added. It holds the key and the weight of that node.
+/// A node was not added. The error holds its key and its weight.
 ///
 /// # Examples
 ///
@@ -44,7 +44,7 @@ impl<K, N> AddError<K, N> {
     }
 }
 
-/// A dependency was not added. It holds the weight of its edge.
+/// A dependency was not added. The error holds the weight of its edge.
 ///
 /// # Examples
 ///
@@ -92,8 +92,8 @@ impl<E> DependError<E> {
     }
 }
 
-/// The dependencies of a node were not set. It holds the items that the call took, in the same
-/// order.
+/// The dependencies of a node were not set. The error holds the items that the call took, in the
+/// same order.
 ///
 /// # Examples
 ///
@@ -142,4 +142,20 @@ impl<Q, E> DependenciesError<Q, E> {
             | DependenciesError::Memory(items) => items,
         }
     }
+}
+
+/// Why keys are not the keys of the nodes of a dag. See
+/// [`FromDagError`](crate::named::FromDagError).
+#[derive(Clone, Copy, Debug, Eq, Error, PartialEq)]
+pub enum KeysError {
+    /// There are more or fewer keys than nodes.
+    #[error("the number of keys is not the number of nodes")]
+    Count,
+    /// Two keys are equal. The position, counted from 0, of the first key that equals an earlier
+    /// one.
+    #[error("key {0} equals an earlier one")]
+    Repeated(usize),
+    /// Out of memory for the keys.
+    #[error("out of memory")]
+    Memory,
 }

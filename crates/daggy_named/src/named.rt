@@ -1,5 +1,5 @@
 //! A dag whose nodes are named by keys: `Named`.
-ghost use Rattle.std.specs.Prelude.{◌≡◌, ℕ, ◌<◌, ◌≤◌, ◌↔◌, ◌⊎◌, ◌++◌, [], ◌∷◌, Some, None, Ok, Err};
+ghost use Rattle.std.specs.Prelude.{◌≡◌, ℕ, ◌+◌, ◌<◌, ◌≤◌, ◌↔◌, ◌⊎◌, ◌++◌, [], ◌∷◌, Some, None, Ok, Err};
 ghost use Rattle.std.specs.Prelude.{IsTrue, IsSome, IfOk, IsOkAnd, IfErr, OnOk, OnErr, IfSome, IfNone};
 ghost use Rattle.std.specs.Prelude.{map, length, option_copied, slice_set, vec_len, vec_capacity};
 ghost use Rattle.std.specs.Borrow.{sem};
@@ -33,6 +33,7 @@ use std::marker::Model;
 
 mod changes;
 mod dependencies;
+mod from_dag;
 mod keys;
 mod planning;
 mod questions;
@@ -42,6 +43,7 @@ mod setting;
 mod topological;
 
 pub use dependencies::Dependency;
+pub use from_dag::FromDagError;
 pub use keys::{Keys, NeighborKeys};
 pub use planning::PlanByKey;
 pub use ready::ReadyKeys;
@@ -265,7 +267,8 @@ impl<K: Eq + Hash + Drop, N: Drop, E: Drop, Ix: IndexType> Named<K, N, E, Ix> {
     ///
     /// # Errors
     ///
-    /// Each error holds the weight, and the dag is unchanged. In this order:
+    /// Each error holds the weight, and the dag is unchanged. The conditions are checked in this
+    /// order:
     ///
     /// - `DependError::UnknownDependency` if no node has the key `on`.
     /// - `DependError::UnknownDependent` if no node has the key `what`.
@@ -319,9 +322,9 @@ impl<K: Eq + Hash + Drop, N: Drop, E: Drop, Ix: IndexType> Named<K, N, E, Ix> {
         }
     }
 
-    /// A shortest path from the node with the key `what` to the node with the key `on`. Together
-    /// with the edge that [`depend`](Named::depend) rejects, it is a cycle. `None` if there is no
-    /// such path, or no such node.
+    /// A shortest path from the node with the key `what` to the node with the key `on`. This path
+    /// and the edge that [`depend`](Named::depend) rejects form a cycle. `None` if there is no such
+    /// path, or no such node.
     ///
     /// The dag is unchanged; the call needs `&mut self` because it uses the dag's memory for
     /// searches.
@@ -394,7 +397,7 @@ impl<K: Eq + Hash + Drop, N: Drop, E: Drop, Ix: IndexType> Named<K, N, E, Ix> {
     /// Removes the node with this key and its edges, and returns its key and its weight, or `None`
     /// if there is no such node.
     ///
-    /// No other index changes, and the next node that is added gets this index.
+    /// No other index changes, and the next node that is added gets the freed index.
     ///
     /// # Complexity
     ///
@@ -454,6 +457,8 @@ fn put_name<K: Eq + Hash + Drop, Ix: IndexType>(
     requires place_room { vec_len places.old < vec_capacity places.old }
     ensures entered { nodes.new.entries ≡ nodes.old.entries ++ (key, n) ∷ [] }
     ensures once { IsUnique K.eq nodes.new }
+    ensures spare { spare nodes.old ≤ spare nodes.new + 1 }
+    ensures capacity { vec_capacity places.new ≡ vec_capacity places.old }
     ensures filled { Ix.number n < length places.old.items → places.new.items
         ≡ slice_set places.old.items (Ix.number n) (Some (index_map_len nodes.old)) }
     ensures pushed { Ix.number n ≡ length places.old.items

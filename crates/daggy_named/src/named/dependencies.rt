@@ -17,9 +17,9 @@ use daggy_base::index::{EdgeIndex, IndexType};
 use indexmap::Equivalent;
 use std::hash::Hash;
 
-/// Which node depends on which, by their keys.
+/// A dependency between two nodes that are given by their keys.
 ///
-/// Its fields are named when you make one, so you cannot confuse the two keys.
+/// Its fields have names, so the two keys cannot be confused.
 ///
 /// # Examples
 ///
@@ -97,7 +97,7 @@ impl<K: Eq + Hash + Drop, N: Drop, E: Drop, Ix: IndexType> Named<K, N, E, Ix> {
     /// Removes a dependency and returns the weight of its edge, or `None` if there is none. Of
     /// parallel edges it removes the newest.
     ///
-    /// No other index changes, and the next edge that is added gets this index.
+    /// No other index changes, and the next edge that is added gets the freed index.
     ///
     /// # Complexity
     ///

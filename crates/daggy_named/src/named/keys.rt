@@ -20,7 +20,7 @@ use std::marker::Model;
 ///
 /// # Complexity
 ///
-/// O(slots), occupied or vacant, for the whole iteration.
+/// O(node slots, occupied or vacant) for the whole iteration.
 ///
 /// # Examples
 ///
@@ -145,7 +145,7 @@ impl<K: Eq + Hash + Drop, N: Drop, E: Drop, Ix: IndexType> Named<K, N, E, Ix> {
     ///
     /// # Complexity
     ///
-    /// O(slots), occupied or vacant, for the whole iteration.
+    /// O(node slots, occupied or vacant) for the whole iteration.
     ///
     /// # Examples
     ///

@@ -1,4 +1,4 @@
-//! The nodes in stages, by keys.
+//! Plans in stages, by keys.
 ghost use Rattle.std.specs.Prelude.{◌≡◌, Some, map, IfOk};
 ghost use Rattle.std.specs.List.{All};
 ghost use Rattle.daggy_base.specs.Graph.{HasNode};
@@ -28,8 +28,8 @@ pub struct PlanByKey<'a, K> {
     /// stage after those that it depends on, and no stage is empty.
     pub stages: Vec<Vec<&'a K>>,
     /// The keys along a path with a node in each stage, so no plan has fewer stages. It ends with
-    /// the lowest-index node of the last stage, and each node is preceded by the node with the
-    /// lowest index among those in the previous stage that it depends on.
+    /// the lowest-index node of the last stage, and each node is preceded by its lowest-index
+    /// dependency in the previous stage.
     pub chain: Vec<&'a K>,
 }
 

@@ -128,7 +128,7 @@ impl<K: Eq + Hash + Drop, N: Drop, E: Drop, Ix: IndexType> Named<K, N, E, Ix> {
     ///
     /// # Complexity
     ///
-    /// O(nodes), plus O(k log k + edges) for k nodes found and the edges that leave them.
+    /// O(nodes), plus O(k log k + m) for k nodes found and m edges that leave them.
     ///
     /// # Examples
     ///
@@ -170,7 +170,7 @@ impl<K: Eq + Hash + Drop, N: Drop, E: Drop, Ix: IndexType> Named<K, N, E, Ix> {
     ///
     /// # Complexity
     ///
-    /// O(nodes), plus O(k log k + edges) for k nodes found and the edges that enter them.
+    /// O(nodes), plus O(k log k + m) for k nodes found and m edges that enter them.
     pub fn ancestors_of<Q: Equivalent<K>>(&self, key: Q) -> Result<Option<Vec<&K>>, AllocError>
         ensures found { IfOk result (λ found. IfSome found (λ keys.
             ForNode (Q.equivalent key) self.now.keys (λ n. AreKeysOf self.now.keys

@@ -1,4 +1,4 @@
-//! When the nodes can start and finish, by keys.
+//! Schedules by keys.
 ghost use Rattle.std.specs.Prelude.{◌≡◌, ℕ, List, Some, Err, IsSome, IfOk, slice_index};
 ghost use Rattle.std.specs.Option.{option_map};
 ghost use Rattle.daggy_schedule.specs.Times.{TakesTooLong};
@@ -16,7 +16,7 @@ use std::fmt;
 use std::hash::Hash;
 use std::marker::Model;
 
-/// When each node of a dag can start, by keys.
+/// The schedule of a dag, by keys: when each node can start.
 ///
 /// # Examples
 ///
@@ -79,8 +79,8 @@ impl<'a, K: Eq + Hash + Drop, N: Drop, E: Drop, Ix: IndexType> ScheduleByKey<'a,
 
     /// The keys along a critical path: a path whose durations add up to the
     /// [`makespan`](ScheduleByKey::makespan). Empty only if there are no nodes. It ends with the
-    /// node that finishes last, and each node is preceded by the one, among those that it depends
-    /// on, that finishes last; ties go to the lowest index.
+    /// node that finishes last, and each node is preceded by whichever of its dependencies finishes
+    /// last; ties go to the lowest index.
     pub fn critical_path(&self) -> &[&'a K]
         ensures { keys_in result.now ≡ self.now.critical }
     {
@@ -138,8 +138,8 @@ impl<'a, K: Eq + Hash, N: Drop, E: Drop, Ix: IndexType> fmt::Debug
 }
 
 impl<K: Eq + Hash + Drop, N: Drop, E: Drop, Ix: IndexType> Named<K, N, E, Ix> {
-    /// When each node can start and finish if it waits only for the nodes that it depends on, how
-    /// late it can start, and a critical path. The same as
+    /// Computes when each node can start and finish if it waits only for the nodes that it depends
+    /// on, how late it can start, and a critical path. The same as
     /// [`Schedule::new`](daggy_schedule::schedule::Schedule::new) of the [`dag`](Named::dag), by
     /// keys. `duration` is called once with the key and the weight of each node; the unit is up to
     /// the caller.

@@ -289,9 +289,9 @@ impl<K: Eq + Hash + Drop, N: Drop, E: Drop, Ix: IndexType> Named<K, N, E, Ix> {
         self.set_in(n, items, room)
     }
 
-    /// Replaces what the node with this key depends on, all of it or nothing: afterwards, for each
-    /// item, one edge with the item's weight enters the node, from the node with the item's key.
-    /// The new edges are added in the order of the items; then the old edges are removed, as by
+    /// Replaces all dependencies of the node with this key, or none: afterwards, for each item, one
+    /// edge with the item's weight enters the node, from the node with the item's key. The new
+    /// edges are added in the order of the items; then the old edges are removed, as by
     /// [`set_parents`](daggy_dag::acyclic::Acyclic::set_parents) of the dag, and their weights are
     /// dropped. The indices of other edges do not change.
     ///
@@ -300,7 +300,8 @@ impl<K: Eq + Hash + Drop, N: Drop, E: Drop, Ix: IndexType> Named<K, N, E, Ix> {
     ///
     /// # Errors
     ///
-    /// Each error holds the items, in the same order, and the dag is unchanged. In this order:
+    /// Each error holds the items, in the same order, and the dag is unchanged. The conditions are
+    /// checked in this order:
     ///
     /// - `DependenciesError::UnknownDependent` if no node has the key.
     /// - `DependenciesError::UnknownDependency` with the position, counted from 0, of the first
@@ -314,7 +315,7 @@ impl<K: Eq + Hash + Drop, N: Drop, E: Drop, Ix: IndexType> Named<K, N, E, Ix> {
     /// # Complexity
     ///
     /// One hash lookup for the key and two for each item, plus the cost of `set_parents` of the
-    /// dag. If there is no memory for the lists of nodes and edges: one search for each item.
+    /// dag. If allocating the lists of nodes and edges fails, one search for each item instead.
     ///
     /// # Examples
     ///

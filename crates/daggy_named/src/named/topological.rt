@@ -13,8 +13,8 @@ use std::iter::{DoubleEndedIterator, FusedIterator};
 use std::marker::Model;
 
 /// The keys of all nodes in topological order: each key comes after the keys of the nodes that its
-/// node depends on. It is double-ended: `.rev()` yields them before. It is what
-/// [`topological_keys`](Named::topological_keys) returns.
+/// node depends on. It is double-ended: `.rev()` yields dependents first. Returned by
+/// [`topological_keys`](Named::topological_keys).
 ///
 /// # Complexity
 ///
