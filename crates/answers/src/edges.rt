@@ -5,8 +5,8 @@ ghost use Rattle.answers.specs.Answers.{endpoints_of, AreAscending};
 use daggy::{Acyclic, EdgeIndex, IndexType, Store};
 use std::alloc::{AllocError, Global};
 
-// The parent and the child of each edge, by ascending index.
-fn endpoints<N: Drop, E: Drop, Ix: IndexType, S: Store<Ix, NodeWeight = N, EdgeWeight = E>>(
+/// The parent and the child of each edge, by ascending index.
+pub fn endpoints<N: Drop, E: Drop, Ix: IndexType, S: Store<Ix, NodeWeight = N, EdgeWeight = E>>(
     alloc: Global,
     dag: &Acyclic<N, E, Ix, S>,
 ) -> Result<Vec<(usize, usize)>, AllocError>

@@ -13,6 +13,8 @@ pub enum Line {
     Edge(NodeIndex, NodeIndex),
     /// Whether a path leads from a node to another, and how long it is.
     Path(NodeIndex, NodeIndex),
+    /// The simple paths from one node to another that have at most this many edges.
+    Simple(NodeIndex, NodeIndex, usize),
     /// All other questions.
     Rest,
 }
@@ -36,6 +38,12 @@ pub fn parse(alloc: Global, text: &str) -> Result<Line> {
             let (from, to) = two_nodes(words)?;
             Ok(Line::Path(from, to))
         }
+        "simple" => {
+            let from = words.next().and_then(node).context("not a node")?;
+            let to = words.next().and_then(node).context("not a node")?;
+            let limit = words.next().and_then(number).context("not a number")?;
+            Ok(Line::Simple(from, to, limit))
+        }
         "rest" => Ok(Line::Rest),
         _ => bail!("no such line"),
     }
@@ -45,6 +53,10 @@ fn two_nodes(mut words: SplitWhitespace<'_>) -> Result<(NodeIndex, NodeIndex)> {
     let first = words.next().and_then(node).context("not a node")?;
     let second = words.next().and_then(node).context("not a node")?;
     Ok((first, second))
+}
+
+fn number(word: &str) -> Option<usize> {
+    word.parse::<usize>().ok()
 }
 
 // The node with a number.

@@ -2,8 +2,9 @@
 //! `answers compact` and `answers stable` read lines and print one line for each question.
 //!
 //! `dag WEIGHT ..` begins a dag with these nodes. `edge PARENT CHILD` adds an edge. `path FROM TO` asks
-//! whether a path leads from a node to another, and for the length of a shortest one. `rest` asks all
-//! other questions, and reduces the dag.
+//! whether a path leads from a node to another, and for the length of a shortest one; `simple FROM TO
+//! LIMIT` asks for the simple paths that have at most that many edges. `rest` asks all other questions, and
+//! reduces the dag.
 #![tactic(auto)]
 
 mod edges;
@@ -33,6 +34,9 @@ fn take<S: Store<u32, NodeWeight = u64, EdgeWeight = ()>, W: Write>(
         Line::Dag(weights) => *dag = questions::dag_of(rt.alloc(), weights.as_slice())?,
         Line::Edge(parent, child) => questions::add_edge(dag, parent, child)?,
         Line::Path(from, to) => questions::write_path(out, dag, from, to)?,
+        Line::Simple(from, to, limit) => {
+            questions::write_simple_paths(rt.alloc(), out, dag, from, to, limit)?
+        }
         Line::Rest => questions::write_rest(rt.alloc(), out, dag)?,
     }
     Ok(())

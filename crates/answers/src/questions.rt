@@ -3,10 +3,10 @@ ghost use Rattle.std.specs.Prelude.{◌≡◌, OnOk, OnErr, IfOk};
 ghost use Rattle.daggy_base.specs.Adding.{with_edge};
 ghost use Rattle.answers.specs.Answers.{HasOnly};
 
-use crate::edges::sorted_endpoints;
+use crate::edges::{endpoints, sorted_endpoints};
 use crate::walks::{breadth_first, depth_first, in_postorder};
 use anyhow::{Result, bail};
-use daggy::operators::lowest_common_ancestors;
+use daggy::operators::{all_simple_paths, lowest_common_ancestors, transitive_closure_dag};
 use daggy::schedule::{Schedule, topological_order_by};
 use daggy::{Acyclic, NodeIndex, Store};
 use std::alloc::Global;
@@ -71,6 +71,28 @@ pub fn write_path<S: Store<u32, NodeWeight = u64, EdgeWeight = ()>, W: Write>(
     Ok(())
 }
 
+/// Writes the nodes of each simple path from a node to another that has at most `limit` edges.
+pub fn write_simple_paths<S: Store<u32, NodeWeight = u64, EdgeWeight = ()>, W: Write>(
+    alloc: Global,
+    out: &mut W,
+    dag: &Timed<S>,
+    from: NodeIndex,
+    to: NodeIndex,
+    limit: usize,
+) -> Result<()> {
+    let (a, b) = (from.index(), to.index());
+    write!(out, "simple {a} {b} {limit}:")?;
+    let mut paths = all_simple_paths(alloc, dag, from, to, limit)?;
+    'paths: while let Some(path) = paths.next()? {
+        write!(out, " {a}")?;
+        for n in path.iter().skip(1) {
+            write!(out, "-{}", n.index())?;
+        }
+    }
+    writeln!(out)?;
+    Ok(())
+}
+
 /// Writes the answers to all other questions. In the end it reduces the dag.
 pub fn write_rest<S: Store<u32, NodeWeight = u64, EdgeWeight = ()>, W: Write>(
     alloc: Global,
@@ -82,12 +104,15 @@ pub fn write_rest<S: Store<u32, NodeWeight = u64, EdgeWeight = ()>, W: Write>(
     write_nodes(out, order.as_slice())?;
     let plan = Schedule::new(alloc, dag, |_, duration| *duration)?;
     writeln!(out, "makespan: {}", plan.makespan)?;
+    let plan = Schedule::with_lags(alloc, dag, |_, duration| *duration, |e, _| e.index() as u64)?;
+    writeln!(out, "with lags: {}", plan.makespan)?;
     for n in order.iter() {
         write_relatives(out, dag, *n)?;
         write_walks(alloc, out, dag.graph(), *n)?;
     }
+    write_closure(alloc, out, dag)?;
     dag.transitive_reduce(order)?;
-    write_edges(alloc, out, dag)?;
+    write_edges(out, "reduction", sorted_endpoints(alloc, dag)?.as_slice())?;
     Ok(())
 }
 
@@ -134,16 +159,22 @@ fn write_nodes<W: Write>(out: &mut W, nodes: &[NodeIndex]) -> io::Result<()> {
     writeln!(out)
 }
 
-// Writes all edges.
-fn write_edges<S: Store<u32, NodeWeight = u64, EdgeWeight = ()>, W: Write>(
+// Writes the edges of the transitive closure, by ascending index.
+fn write_closure<S: Store<u32, NodeWeight = u64, EdgeWeight = ()>, W: Write>(
     alloc: Global,
     out: &mut W,
     dag: &Timed<S>,
 ) -> Result<()> {
-    write!(out, "reduction:")?;
-    for (parent, child) in sorted_endpoints(alloc, dag)?.iter() {
+    let closure = transitive_closure_dag(alloc, dag)?;
+    write_edges(out, "closure", endpoints(alloc, &closure)?.as_slice())?;
+    Ok(())
+}
+
+// Writes edges.
+fn write_edges<W: Write>(out: &mut W, name: &str, edges: &[(usize, usize)]) -> io::Result<()> {
+    write!(out, "{name}:")?;
+    for (parent, child) in edges {
         write!(out, " {parent}-{child}")?;
     }
-    writeln!(out)?;
-    Ok(())
+    writeln!(out)
 }

@@ -1,9 +1,11 @@
-//! What is asked of dags, by example: walkers, traversals, ready queues and schedules, names and
-//! pictures.
+//! What is asked of dags, by example: walkers, traversals, ready queues and schedules, names,
+//! closures and simple paths, and pictures.
 #![tactic(auto)]
 
 #[cfg(test)]
 mod named;
+#[cfg(test)]
+mod operators;
 #[cfg(test)]
 mod pictures;
 #[cfg(test)]

@@ -1,6 +1,7 @@
 //! What no contract says: that calls succeed, and what they answer for small dags, for keys of three
 //! types.
 
+mod from_dag;
 mod keys;
 mod limits;
 mod questions;

@@ -36,6 +36,34 @@ fn done(rt: &impl Abort, ready: &mut ReadyKeys<'_, String, u64, ()>, key: &str, 
     same(rt, ready.is_out(key), false);
 }
 
+fn fail(rt: &impl Abort, ready: &mut ReadyKeys<'_, String, u64, ()>, key: &str, was_out: bool) {
+    same(rt, ready.fail(key), was_out);
+    same(rt, ready.is_out(key), false);
+}
+
+// Asserts whether a key failed, how many did, and whether the work is over.
+fn failed(
+    rt: &impl Abort,
+    ready: &ReadyKeys<'_, String, u64, ()>,
+    key: &str,
+    is_failed: bool,
+    count: usize,
+    is_over: bool,
+) {
+    same(rt, ready.is_failed(key), is_failed);
+    same(rt, ready.failed_count(), count);
+    same(rt, ready.is_over(), is_over);
+}
+
+// Asserts which keys are skipped.
+fn skipped(rt: &impl Abort, ready: &ReadyKeys<'_, String, u64, ()>, wanted: &[&'static str]) {
+    let found = made(rt, ready.skipped());
+    same(rt, found.len(), wanted.len());
+    for (key, text) in found.iter().zip(wanted) {
+        same(rt, key.as_str(), *text);
+    }
+}
+
 // Asserts when a key can start, if there is a node with it.
 fn starts(
     rt: &impl Abort,
@@ -133,6 +161,46 @@ fn keys_are_worked_off(rt: HostRuntime) {
     same(&rt, work_off(&rt, &plan), 5);
     same(&rt, plan.remove("water").is_some(), true);
     same(&rt, work_off(&rt, &plan), 4);
+}
+
+// "reap" depends on "hoe", which fails, and "water" does not.
+#[test]
+fn a_key_fails(rt: HostRuntime) {
+    let mut plan: Plan = Named::new(rt.alloc());
+    fill(&rt, rt.alloc(), &mut plan);
+    let mut ready = made(&rt, plan.ready());
+    fail(&rt, &mut ready, "sow", false);
+    fail(&rt, &mut ready, "rake", false);
+    next(&rt, &mut ready, Some("mow"));
+    next(&rt, &mut ready, Some("sow"));
+    done(&rt, &mut ready, "sow", true);
+    next(&rt, &mut ready, Some("water"));
+    next(&rt, &mut ready, Some("hoe"));
+    failed(&rt, &ready, "hoe", false, 0, false);
+    fail(&rt, &mut ready, "hoe", true);
+    fail(&rt, &mut ready, "hoe", false);
+    done(&rt, &mut ready, "hoe", false);
+    done(&rt, &mut ready, "water", true);
+    next(&rt, &mut ready, None);
+    failed(&rt, &ready, "hoe", true, 1, false);
+    counts(&rt, &ready, 1, 1);
+    done(&rt, &mut ready, "mow", true);
+    failed(&rt, &ready, "water", false, 1, true);
+    same(&rt, ready.is_finished(), false);
+    skipped(&rt, &ready, &["reap"]);
+}
+
+#[test]
+fn keys_are_skipped(rt: HostRuntime) {
+    let mut plan: Plan = Named::new(rt.alloc());
+    fill(&rt, rt.alloc(), &mut plan);
+    let mut ready = made(&rt, plan.ready());
+    next(&rt, &mut ready, Some("mow"));
+    next(&rt, &mut ready, Some("sow"));
+    skipped(&rt, &ready, &[]);
+    fail(&rt, &mut ready, "sow", true);
+    // In the order in which they were added.
+    skipped(&rt, &ready, &["reap", "water", "hoe"]);
 }
 
 #[test]

@@ -90,6 +90,22 @@ fn schedule_again<S: Store<u32, NodeWeight = u64, EdgeWeight = ()>>(
     same(rt, plan.makespan, 5);
 }
 
+fn schedule_with_lags_again<S: Store<u32, NodeWeight = u64, EdgeWeight = ()>>(
+    rt: &impl Abort,
+    alloc: Global,
+    dag: &Plain<S>,
+) {
+    let plan = match Schedule::with_lags(alloc, dag, |_, duration| *duration, |_, _| 4) {
+        Ok(plan) => plan,
+        Err(ScheduleError::Memory) => made(
+            rt,
+            Schedule::with_lags(alloc, dag, |_, duration| *duration, |_, _| 4),
+        ),
+        Err(ScheduleError::Overflow) => panic!(rt; "the nodes do not take too long"),
+    };
+    same(rt, plan.makespan, 9);
+}
+
 fn order_again<S: Store<u32, NodeWeight = u64, EdgeWeight = ()>>(
     rt: &impl Abort,
     alloc: Global,
@@ -124,6 +140,7 @@ pub fn again<S: Store<u32, NodeWeight = u64, EdgeWeight = ()>>(rt: &impl Abort, 
     ready_by_key_again(rt, alloc, &dag);
     fallible_ready_again(rt, alloc, &dag);
     schedule_again(rt, alloc, &dag);
+    schedule_with_lags_again(rt, alloc, &dag);
     order_again(rt, alloc, &dag);
     assign_again(rt, alloc, &dag);
 }

@@ -1,6 +1,6 @@
 //! Schedules that were worked out by hand.
 ghost use Rattle.std.specs.Prelude.{◌≤◌, length};
-ghost use Rattle.daggy_base.specs.Graph.{node_bound};
+ghost use Rattle.daggy_base.specs.Graph.{node_bound, edge_bound};
 
 use super::scenes::{Scene, compact, stable};
 use super::support::{Plain, dag_of, times, turned_dag_of};
@@ -70,6 +70,66 @@ fn plans_by_table<S: Store<u32, NodeWeight = u64, EdgeWeight = ()>>(
     lists(rt, plan.critical.as_slice(), &[2, 1]);
 }
 
+// A schedule with the lags of a table.
+fn with_table<S: Store<u32, NodeWeight = u64, EdgeWeight = ()>>(
+    alloc: Global,
+    dag: &Plain<S>,
+    table: &[u64],
+) -> Result<Schedule, ScheduleError>
+    requires { edge_bound dag.now.graph ≤ length table.now }
+{
+    Schedule::with_lags(alloc, dag, |_, duration| *duration, |e, _| table[e.index()])
+}
+
+// Without lags, 0 2 4 would be critical. Of the two edges from node 0 to node 2, the one with the
+// longer lag counts.
+fn plans_with_lags<S: Store<u32, NodeWeight = u64, EdgeWeight = ()>>(
+    rt: &impl Abort,
+    alloc: Global,
+) {
+    let edges = [(0, 1), (0, 2), (1, 3), (2, 3), (2, 4), (0, 2)];
+    let lags = [9, 0, 1, 2, 0, 2];
+    let dag = dag_of::<S>(rt, alloc, &[3, 2, 5, 1, 4], &edges);
+    assert!(rt; dag.graph().edge_bound() <= lags.len());
+    let plan = made(rt, with_table(alloc, &dag, &lags));
+    times(rt, plan.durations.as_slice(), &[3, 2, 5, 1, 4]);
+    times(rt, plan.lags.as_slice(), &lags);
+    times(rt, plan.starts.as_slice(), &[0, 12, 5, 15, 10]);
+    times(rt, plan.finishes.as_slice(), &[3, 14, 10, 16, 14]);
+    times(rt, plan.slack.as_slice(), &[0, 0, 2, 0, 2]);
+    same(rt, plan.makespan, 16);
+    lists(rt, plan.critical.as_slice(), &[0, 1, 3]);
+}
+
+// The lags of both edges to node 2 end at the same time.
+fn plans_the_lowest_with_lags<S: Store<u32, NodeWeight = u64, EdgeWeight = ()>>(
+    rt: &impl Abort,
+    alloc: Global,
+) {
+    let dag = dag_of::<S>(rt, alloc, &[3, 1, 2], &[(1, 2), (0, 2)]);
+    let lags = [2, 0];
+    assert!(rt; dag.graph().edge_bound() <= lags.len());
+    let plan = made(rt, with_table(alloc, &dag, &lags));
+    times(rt, plan.starts.as_slice(), &[0, 0, 3]);
+    times(rt, plan.slack.as_slice(), &[0, 0, 0]);
+    lists(rt, plan.critical.as_slice(), &[0, 2]);
+}
+
+fn plans_too_long_a_lag<S: Store<u32, NodeWeight = u64, EdgeWeight = ()>>(
+    rt: &impl Abort,
+    alloc: Global,
+) {
+    let dag = dag_of::<S>(rt, alloc, &[1, 0], &[(0, 1)]);
+    let lags = [u64::MAX];
+    assert!(rt; dag.graph().edge_bound() <= lags.len());
+    holds(
+        rt,
+        matches!(with_table(alloc, &dag, &lags), Err(ScheduleError::Overflow)),
+    );
+    let plan = made(rt, with_table(alloc, &dag, &[u64::MAX - 1]));
+    same(rt, plan.makespan, u64::MAX);
+}
+
 fn plans_none<S: Store<u32, NodeWeight = u64, EdgeWeight = ()>>(rt: &impl Abort, alloc: Global) {
     let none = dag_of::<S>(rt, alloc, &[], &[]);
     let plan = made(rt, Schedule::new(alloc, &none, |_, duration| *duration));
@@ -102,6 +162,9 @@ pub fn plans_all<S: Store<u32, NodeWeight = u64, EdgeWeight = ()>>(rt: &impl Abo
     plans::<S>(rt, alloc);
     plans_alike::<S>(rt, alloc);
     plans_by_table::<S>(rt, alloc);
+    plans_with_lags::<S>(rt, alloc);
+    plans_the_lowest_with_lags::<S>(rt, alloc);
+    plans_too_long_a_lag::<S>(rt, alloc);
     plans_none::<S>(rt, alloc);
     plans_too_much::<S>(rt, alloc);
 }
@@ -119,6 +182,14 @@ pub fn plans_past_a_slot<S: Store<u32, NodeWeight = u64, EdgeWeight = ()>>(
     times(rt, plan.starts.as_slice(), &[0, 0, 0, 2]);
     times(rt, plan.slack.as_slice(), &[0, 0, 4, 0]);
     same(rt, plan.makespan, 5);
+    lists(rt, plan.critical.as_slice(), &[0, 3]);
+    let lags = [7, 7, 4];
+    assert!(rt; dag.graph().edge_bound() <= lags.len());
+    let plan = made(rt, with_table(alloc, &dag, &lags));
+    times(rt, plan.lags.as_slice(), &[0, 0, 4]);
+    times(rt, plan.starts.as_slice(), &[0, 0, 0, 6]);
+    times(rt, plan.slack.as_slice(), &[0, 0, 8, 0]);
+    same(rt, plan.makespan, 9);
     lists(rt, plan.critical.as_slice(), &[0, 3]);
 }
 

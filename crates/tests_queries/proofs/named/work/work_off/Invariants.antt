@@ -5,4 +5,4 @@ abbrev pub invariant-ready : goal.invariant-ready
 invariant-ready g l = Unit {0}
 
 abbrev pub decreases-ready : goal.decreases-ready
-decreases-ready g l = remaining_of l.ready.named.graph l.ready.work
+decreases-ready g l = remaining_of l.ready.named.graph l.ready.queue.work
