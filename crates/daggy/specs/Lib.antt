@@ -56,8 +56,11 @@ pub use Rattle.daggy_dag.specs.WholeReduction
 pub use Rattle.daggy_dag.specs.FromGraph
 pub use Rattle.daggy_operators.specs.Operators
 pub use Rattle.daggy_operators.specs.Common
+pub use Rattle.daggy_operators.specs.Closure
+pub use Rattle.daggy_operators.specs.SimplePaths
 pub use Rattle.daggy_schedule.specs.Work
 pub use Rattle.daggy_schedule.specs.Times
+pub use Rattle.daggy_schedule.specs.Lags
 pub use Rattle.daggy_schedule.specs.LeastFirst
 pub use Rattle.daggy_schedule.specs.Assignments
 pub use Rattle.daggy_schedule.specs.ByKey
@@ -68,6 +71,7 @@ pub use Rattle.daggy_traversal.specs.Depth
 pub use Rattle.daggy_traversal.specs.Postorder
 pub use Rattle.daggy_named.specs.Dependencies
 pub use Rattle.daggy_named.specs.Naming
+pub use Rattle.daggy_named.specs.Keyed
 pub use Rattle.daggy_named.specs.Planned
 pub use Rattle.daggy_named.specs.Working
 pub use Rattle.daggy_named.specs.Scheduled

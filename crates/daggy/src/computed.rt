@@ -1,4 +1,5 @@
-//! Values that are computed along a dag, and computed again only where something changed.
+//! Values that are computed from the values of parents in a dag, and recomputed only where
+//! something changed.
 //!
 //! A [`Computed`] has a formula and a value at each node, over a dag of either kind:
 //! [`ComputedDag`] or [`StableComputedDag`]. A change makes nodes stale, and

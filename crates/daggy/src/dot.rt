@@ -1,4 +1,4 @@
-//! Pictures of dags and graphs, in the language of graphviz.
+//! Pictures of dags and of other graphs, in graphviz's language DOT.
 //!
 //! [`Dot`] displays a dag or a store, so `println!` or `format!` writes it. The labels are the
 //! weights ([`WeightLabels`]), none ([`NoLabels`]), or what a [`Label`] of your own writes.

@@ -1,8 +1,8 @@
-//! The compact graph that a [`Dag`](crate::Dag) is built on. It may hold cycles.
+//! The compact graph that a [`Dag`](crate::Dag) is built on. It may have cycles.
 //!
 //! In a [`DiGraph`] nodes and edges are numbered from 0 without gaps; a removal moves the last one
-//! into the freed index. The edges of a node are linked in two lists, those that leave it and those
-//! that enter it; a new edge comes first in both.
+//! into the freed index. Each node has two lists of edges: those that leave it and those that enter
+//! it. A new edge is first in the out list of its parent and in the in list of its child.
 pub use daggy_base::element::{Element, IntoWeightedEdge};
 pub use daggy_cells::cell::{Edge, Node};
 pub use daggy_cells::reference::EdgeReference;

@@ -13,20 +13,21 @@
 //! assert!(rt; dag.children(sow).walk_next(&dag) == Some((days, reap)));
 //! ```
 //!
-//! In a `Dag` a removal moves the last element into the freed index. The dag of [`stable_dag`]
-//! keeps the indices of everything else. Both are an [`Acyclic`] over a [`Store`], so that code can
-//! be written for either; code that only reads has the bound [`ReadStore`].
+//! In a `Dag` a removal moves the last element into the freed index; in the dag of [`stable_dag`]
+//! no other index changes. Both are aliases of [`Acyclic`], each over its own [`Store`], so code
+//! can be generic over the kind; for code that only reads, the bound [`ReadStore`] is enough.
 //!
-//! - [`named`]: dags whose nodes have keys, and whose methods take any key; [`computed`]: dags
+//! - [`named`]: dags whose nodes have keys, and whose methods accept any key; [`computed`]: dags
 //!   whose nodes have formulas and values.
-//! - [`operators`]: subgraphs of a dag, reversed dags, and lowest common ancestors.
+//! - [`operators`]: subgraphs of a dag, reversed dags, transitive closures, simple paths, and lowest
+//!   common ancestors.
 //! - [`schedule`]: ready queues, schedules and orders by keys; [`run`]: plans in stages, and lists
 //!   of commands.
-//! - [`traversal`]: breadth first and depth first; [`walker`]: walks along edges, and their
-//!   adapters; [`visit`]: traits for generic code.
-//! - [`json`]: dags as JSON; [`dot`]: dags as pictures of graphviz; [`formats`]: Mermaid, GraphML
-//!   and tables.
-//! - [`graph`] and [`stable_graph`]: the stores inside, which may hold cycles; [`search`]: paths,
+//! - [`traversal`]: breadth-first and depth-first walks; [`walker`]: walkers, which iterate without
+//!   a lasting borrow, and their adapters; [`visit`]: traits for generic code.
+//! - [`json`]: dags as JSON; [`dot`]: dags as graphviz pictures; [`formats`]: Mermaid, GraphML and
+//!   tables.
+//! - [`graph`] and [`stable_graph`]: the stores inside, which may have cycles; [`search`]: paths,
 //!   orders and reductions of any graph; [`components`]: its components and cycles.
 //! - [`index`]: typed indices.
 #![tactic(auto)]

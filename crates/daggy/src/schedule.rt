@@ -4,8 +4,8 @@
 //! by priority. In a [`FallibleReady`] queue nodes may fail, and what depends on them is skipped.
 //! [`topological_order_by`] lists all nodes, each after its parents, by priority.
 //!
-//! [`Schedule`] has the earliest start and the slack of each node, and a critical path.
-//! [`schedule_on`] assigns the nodes to a number of workers.
+//! [`Schedule`] has the earliest start and the slack of each node, and a critical path, with or
+//! without lags between the nodes. [`schedule_on`] assigns the nodes to a number of workers.
 pub use daggy_schedule::fallible_ready::FallibleReady;
 pub use daggy_schedule::on_workers::{Assignment, schedule_on};
 pub use daggy_schedule::order_by::topological_order_by;

@@ -1,6 +1,6 @@
 //! Walks over the nodes reachable from a node: breadth first, depth first, and in postorder.
 //!
-//! Each goes along the edges or against them, over the graph of a dag or over any store, and is a
+//! Each follows the edges forward or backward, in the graph of a dag or in any store, and is a
 //! [`Walker`](crate::Walker): it borrows the graph only while it takes a step.
 pub use daggy_traversal::bfs::Bfs;
 pub use daggy_traversal::dfs::Dfs;

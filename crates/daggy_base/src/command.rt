@@ -34,7 +34,7 @@ pub type Neighbor<Ix> = (EdgeIndex<Ix>, NodeIndex<Ix>);
 /// ```
 pub type NewEdge<E, Ix> = (NodeIndex<Ix>, NodeIndex<Ix>, E);
 
-/// A command to a dag. Indices need not exist.
+/// A command to a dag. The indices in it need not exist.
 ///
 /// # Examples
 ///
@@ -54,7 +54,8 @@ pub enum Command<N, E, Ix: IndexType = DefaultIx> {
     Node(N),
     /// Add an edge: its parent, its child and its weight.
     Edge(NodeIndex<Ix>, NodeIndex<Ix>, E),
-    /// Write the weight of the newest edge between two nodes, or add an edge if there is none.
+    /// Replace the weight of the newest edge from the first node to the second, or add an edge if
+    /// there is none.
     Update(NodeIndex<Ix>, NodeIndex<Ix>, E),
     /// Add a child of a node: the node, the weight of the edge, and the weight of the new node.
     Child(NodeIndex<Ix>, E, N),
@@ -78,7 +79,7 @@ pub enum Command<N, E, Ix: IndexType = DefaultIx> {
     ClearEdges,
     /// Remove all nodes and edges.
     Clear,
-    /// Remove the edges that are redundant below these nodes.
+    /// Remove the redundant edges that are reachable from these nodes.
     Reduce(Vec<NodeIndex<Ix>>),
 }
 
@@ -118,15 +119,15 @@ pub enum Reply<N, E, Ix: IndexType = DefaultIx> {
     /// The weight of the edge that [`Command::RemoveEdge`](crate::command::Command::RemoveEdge)
     /// removed, or `None` if there was no such edge.
     EdgeGone(Option<E>),
-    /// The edges of [`Command::Children`](crate::command::Command::Children) with the children, or
-    /// the edges of [`Command::Parents`](crate::command::Command::Parents) with the parents, newest
-    /// edge first.
+    /// The edges that [`Command::Children`](crate::command::Command::Children) or
+    /// [`Command::Parents`](crate::command::Command::Parents) lists, each with the child or the
+    /// parent, newest edge first.
     Walk(Vec<Neighbor<Ix>>),
     /// [`Command::ClearEdges`](crate::command::Command::ClearEdges),
     /// [`Command::Clear`](crate::command::Command::Clear) or
     /// [`Command::Reduce`](crate::command::Command::Reduce) was carried out.
     Done,
-    /// A node that the command adds an edge to does not exist. Nothing has changed.
+    /// An endpoint of the edge to be added does not exist. Nothing has changed.
     Missing(Back<N, E>),
     /// The index type has no index left. Nothing has changed.
     Full(Back<N, E>),

@@ -1,4 +1,4 @@
-//! Items from which graphs are built: edges alone, or nodes and edges.
+//! Items from which graphs are built: only edges, or nodes and edges.
 ghost use Rattle.std.specs.Prelude.{◌≡◌};
 
 use crate::index::NodeIndex;
@@ -19,7 +19,7 @@ use crate::index::NodeIndex;
 /// assert!(rt; edge == (sow, reap, 90));
 /// ```
 pub trait IntoWeightedEdge<E> {
-    /// The type of the two ends: `NodeIndex<Ix>` wherever a dag takes edges.
+    /// The type of the two endpoints: `NodeIndex<Ix>` wherever a dag takes edges.
     type NodeId;
 
     // The edge that it may become.
@@ -53,7 +53,7 @@ impl<Ix, E> IntoWeightedEdge<E> for (NodeIndex<Ix>, NodeIndex<Ix>, E) {
 /// A node or an edge in a list from which a graph is made.
 #[derive(Debug, Clone, Copy, Drop, PartialEq, Eq)]
 pub enum Element<N, E> {
-    /// A node. The first one in a list is at position 0, the next at 1, and so on.
+    /// A node. The first node in a list has position 0, the second has position 1, and so on.
     Node {
         /// The weight of the node.
         weight: N,

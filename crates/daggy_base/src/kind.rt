@@ -16,7 +16,7 @@
 /// ```
 #[derive(Clone, Copy, Debug, PartialEq, Eq)]
 pub enum Kind {
-    /// The last node or edge moves there, and gets its index.
+    /// The last node or edge is moved into the freed index.
     Compact,
     /// The slot stays vacant, and no other index changes.
     Stable,

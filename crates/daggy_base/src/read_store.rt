@@ -1,4 +1,4 @@
-//! What both kinds of store offer to code that reads a graph.
+//! What both kinds of store provide to code that only reads a graph.
 ghost use Rattle.std.specs.Prelude.{◌≡◌, ◌<◌, ◌↔◌, IsTrue, length, option_copied};
 ghost use Rattle.std.specs.Option.{option_map};
 ghost use Rattle.daggy_base.specs.Graph.{HasEdge, node_weight as node_weight_at};
@@ -18,8 +18,8 @@ use crate::source::IndexedSource;
 
 /// A graph that can be read without counting edge reads.
 ///
-/// Code that only reads has this bound and not [`Store`](crate::store::Store), which makes the
-/// proofs of its callers shorter.
+/// In code that only reads, use this bound instead of [`Store`](crate::store::Store): it makes the
+/// proofs of callers shorter.
 ///
 /// # Examples
 ///
@@ -50,11 +50,11 @@ pub trait ReadStore<Ix: IndexType>: IndexedSource<Ix> {
         ensures well_formed { IsWellFormed Ix.greatest (Self.graph self.now) }
         ensures compact { KIND ≡ Compact → IsCompact (Self.graph self.now) };
 
-    /// How many slots of nodes there are.
+    /// How many node slots there are, occupied or vacant.
     fn node_slots(&self) -> usize
         ensures { result ≡ length (Self.graph self.now).nodes };
 
-    /// How many slots of edges there are.
+    /// How many edge slots there are, occupied or vacant.
     fn edge_slots(&self) -> usize
         ensures { result ≡ length (Self.graph self.now).edges };
 
@@ -70,11 +70,11 @@ pub trait ReadStore<Ix: IndexType>: IndexedSource<Ix> {
     fn contains_edge_index(&self, e: EdgeIndex<Ix>) -> bool
         ensures { IsTrue result ↔ HasEdge (Self.graph self.now) (Ix.number e) };
 
-    /// The weight of a node, if it exists.
+    /// The weight of a node, if the node exists.
     fn node_weight(&self, n: NodeIndex<Ix>) -> Option<&Self::NodeWeight>
         ensures { option_copied result ≡ node_weight_at (Self.graph self.now) (Ix.number n) };
 
-    /// The weight of an edge, if it exists.
+    /// The weight of an edge, if the edge exists.
     fn edge_weight(&self, e: EdgeIndex<Ix>) -> Option<&Self::EdgeWeight>
         ensures { option_copied result ≡ edge_weight_at (Self.graph self.now) (Ix.number e) };
 
@@ -102,12 +102,12 @@ pub trait ReadStore<Ix: IndexType>: IndexedSource<Ix> {
             ≡ cursor_after dir Ix.greatest (Self.graph self.now) (Ix.number e)
             (edge_at (Self.graph self.now) (Ix.number e)) };
 
-    /// The parent and the child of an edge.
+    /// The parent and the child of an edge, if the edge exists.
     fn edge_endpoints(&self, e: EdgeIndex<Ix>) -> Option<(NodeIndex<Ix>, NodeIndex<Ix>)>
         ensures { option_map (pair_of Ix.number) result
             ≡ option_map ends_of (edge_at (Self.graph self.now) (Ix.number e)) };
 
-    /// The first edge from `a` to `b` in the out list of `a`.
+    /// The first edge from `a` to `b` in the out list of `a`, if there is one.
     ///
     /// # Complexity
     ///

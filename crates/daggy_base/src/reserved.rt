@@ -6,7 +6,7 @@ use std::alloc::AllocError;
 // The least capacity that is reserved, as in `Vec`.
 const LEAST: usize = 4;
 
-/// Reserves capacity for `len` items in all. If it must grow, it at least doubles.
+/// Reserves capacity for `len` items in all. If the capacity has to grow, it at least doubles.
 ///
 /// An empty list gets a new buffer instead of a grown one: `realloc` would copy the whole old
 /// buffer, which holds nothing.

@@ -1,4 +1,4 @@
-//! Nodes and edges as they are stored.
+//! Stored nodes and edges.
 ghost use Rattle.std.specs.Prelude.{◌≡◌, ℕ};
 ghost use Rattle.daggy_cells.specs.Raw.{raw_first, raw_next, raw_parent, raw_child};
 
@@ -51,7 +51,7 @@ pub struct Edge<E, Ix: IndexType = DefaultIx> {
 }
 
 impl<N, Ix: IndexType> Node<N, Ix> {
-    /// The first edge of the node's out list or in list, or `end` if that list is empty.
+    /// The first edge of the node's list in direction `dir`, or `end` if that list is empty.
     #[inline]
     pub fn next_edge(&self, dir: Direction) -> EdgeIndex<Ix>
         ensures { Ix.number result ≡ raw_first dir self.now }
@@ -77,8 +77,8 @@ impl<E, Ix: IndexType> Edge<E, Ix> {
         self.child.node()
     }
 
-    /// The edge after this one in the out list of its source, or in the in list of its target, or
-    /// `end` if this one is the last.
+    /// The edge after this one in its list in direction `dir`, or `end` if this one is the last.
+    /// The list is the out list of its source or the in list of its target.
     #[inline]
     pub fn next_edge(&self, dir: Direction) -> EdgeIndex<Ix>
         ensures { Ix.number result ≡ raw_next dir self.now }

@@ -1,4 +1,4 @@
-//! What the stores are made of: nodes and edges with links between them.
+//! The parts of the stores: nodes and edges with links between them.
 #![tactic(auto)]
 
 pub mod cell;

@@ -202,7 +202,7 @@ fn find_before<E, Ix: IndexType>(
     }
 }
 
-/// The first edge into `child` of the out list that begins with `first`, or `None`.
+/// The first edge into `child` in the out list that begins with `first`, or `None`.
 ///
 /// # Complexity
 ///
@@ -258,8 +258,8 @@ impl<Ix: IndexType> ListHead<Ix> {
         ListHead { node, first }
     }
 
-    /// The head of this list after the edge `e` is taken out of its list, which may be this one or
-    /// another. `next` is the edge after `e` there, or `end`.
+    /// The head of this list after the edge `e` is removed from its list, which may be this list or
+    /// another one. `next` is the edge after `e` in its list, or `end`.
     #[inline]
     pub fn without(self, e: Link<Ix>, next: Link<Ix>) -> Self
         ensures node { result.node ≡ self.node }
@@ -276,8 +276,8 @@ impl<Ix: IndexType> ListHead<Ix> {
     }
 }
 
-/// Replaces the link to `old` in its list in direction `dir` by a link to `new`. `head` is where
-/// that list begins.
+/// Replaces the link to `old`, in its list in direction `dir`, with a link to `new`. `head` is the
+/// head of that list.
 ///
 /// # Complexity
 ///
@@ -306,8 +306,7 @@ pub fn redirect<N, E, Ix: IndexType>(
     }
 }
 
-/// Makes `to` the endpoint of all edges of the list that begins with `first`, which are those of
-/// the node `from`.
+/// Makes `to` the endpoint, in place of `from`, of all edges of the list that begins with `first`.
 pub fn reassign<E, Ix: IndexType>(
     edges: &mut Vec<Edge<E, Ix>>,
     dir: Direction,
@@ -363,7 +362,7 @@ pub fn relink<N, E, Ix: IndexType>(
     set_first(&mut nodes[n], dir, after);
 }
 
-/// Links the out list and the in list of the node `n` in these orders.
+/// Links the out list and the in list of the node `n` in the given orders.
 pub fn relink_both<N, E, Ix: IndexType>(
     nodes: &mut Vec<Node<N, Ix>>,
     edges: &mut Vec<Edge<E, Ix>>,

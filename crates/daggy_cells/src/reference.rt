@@ -29,7 +29,7 @@ pub struct EdgeReference<'a, E, Ix = DefaultIx> {
 }
 
 impl<'a, E, Ix: IndexType> EdgeReference<'a, E, Ix> {
-    /// A reference to an edge with this index, these endpoints and this weight. For stores.
+    /// A reference to an edge with this index, these endpoints and this weight. Used by the stores.
     #[inline]
     pub fn from_parts(
         id: EdgeIndex<Ix>,

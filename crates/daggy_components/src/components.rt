@@ -1,4 +1,4 @@
-//! What a search for components found.
+//! The components that a search found.
 ghost use Rattle.std.specs.Prelude.{◌≡◌, ℕ, ◌<◌, ◌≤◌, ◌^◌, ◌↔◌, Some, Contains, length, map};
 ghost use Rattle.std.specs.Prelude.{vec_len, slice_range};
 ghost use Rattle.std.specs.Iterator.{YieldsFirstBy, item_count};
@@ -14,7 +14,7 @@ use std::marker::Model;
 
 /// The components of a graph, numbered from 0: the members of each, and the component of each node.
 ///
-/// It takes memory for two indices per node and a number per component.
+/// It allocates memory for two indices per node and a number per component.
 ///
 /// # Examples
 ///

@@ -153,8 +153,9 @@ fn edge_slots<Ix: IndexType, S: EdgeSource<Ix>>(
     Ok(slots)
 }
 
-/// The slots of the condensation of a graph: a node for each component, with its members, and an
-/// edge for each pair of components that edges connect, with the smallest index of these edges.
+/// The slots of the condensation of a graph: a node for each component, with the list of its
+/// members as its weight, and an edge for each pair of components that edges connect, with the
+/// smallest index of these edges as its weight.
 ///
 /// Pass them to `from_slots` of a store or of a dag, which finds no cycle in them.
 ///
@@ -214,8 +215,9 @@ pub fn condensation_slots<Ix: IndexType, S: EdgeSource<Ix>>(
     Ok((nodes, edges))
 }
 
-/// The condensation of a graph, which is acyclic: a node for each component, with its members, and
-/// an edge for each pair of components that edges connect, with the smallest index of these edges.
+/// The condensation of a graph, which is acyclic: a node for each component, with the list of its
+/// members as its weight, and an edge for each pair of components that edges connect, with the
+/// smallest index of these edges as its weight.
 ///
 /// Node `k` is the component `k`. A node of the graph reaches another if and only if its component
 /// reaches the other node's component.

@@ -1,4 +1,4 @@
-//! A cycle of a graph that has one.
+//! Finding a cycle of a graph.
 ghost use Rattle.std.specs.Prelude.{◌≡◌, ℕ, ◌+◌, ◌<◌, ◌≤◌, ◌↔◌, IfOk, IfSome, IfNone, IsNone, map};
 ghost use Rattle.std.specs.Prelude.{length, slice_index, slice_range};
 ghost use Rattle.daggy_base.specs.Graph.{node_bound, edge_count};
@@ -111,8 +111,8 @@ fn search<Ix: IndexType, S: EdgeSource<Ix>>(
 
 /// A cycle of the graph, or `None` if the graph is acyclic.
 ///
-/// The cycle is given by its nodes in order, none of them twice: each is joined to the next, and the
-/// last to the first. A node with an edge to itself is a cycle of one node.
+/// The cycle is given by its nodes in order, each once: an edge leads from each node to the next,
+/// and from the last to the first. A node with an edge to itself is a cycle of one node.
 ///
 /// # Errors
 ///

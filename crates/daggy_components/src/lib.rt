@@ -1,4 +1,4 @@
-//! From any graph to a dag: components, the condensation, and cycles.
+//! The components of a graph, its condensation, which is acyclic, and its cycles.
 #![tactic(auto)]
 
 mod components;

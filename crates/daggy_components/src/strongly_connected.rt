@@ -75,8 +75,26 @@ fn close<Ix: IndexType>(
 ///
 /// # Complexity
 ///
-/// O(nodes + edges); each edge is read at most once. It takes memory for five indices per node and
-/// a number per component.
+/// O(nodes + edges); each edge is read at most once. It allocates memory for five indices per node
+/// and a number per component.
+///
+/// # Examples
+///
+/// ```
+/// let mut graph: DiGraph<&'static str, ()> = DiGraph::new(rt.alloc());
+/// let hen = graph.add_node("hen")?;
+/// let egg = graph.add_node("egg")?;
+/// let soup = graph.add_node("soup")?;
+/// let _ = graph.add_edge(hen, egg, ())?;
+/// let _ = graph.add_edge(egg, hen, ())?;
+/// let _ = graph.add_edge(egg, soup, ())?;
+/// let components = strongly_connected_components(rt.alloc(), &mut graph)?;
+/// assert!(rt; components.count() == 2);
+/// assert!(rt; components.component_of(hen) == components.component_of(egg));
+/// // The edge between the two components leads to the smaller number.
+/// assert!(rt; components.component_of(soup) == Some(0));
+/// assert!(rt; components.component_of(egg) == Some(1));
+/// ```
 pub fn strongly_connected_components<Ix: IndexType, S: EdgeSource<Ix>>(
     alloc: Global,
     source: &mut S,

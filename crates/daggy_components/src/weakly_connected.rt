@@ -44,7 +44,7 @@ fn meet_children<Ix: IndexType, S: EdgeSource<Ix>>(
 }
 
 /// The weakly connected components of a graph: the classes of nodes that are connected if the
-/// directions of the edges do not matter.
+/// direction of the edges is ignored.
 ///
 /// # Errors
 ///
@@ -52,7 +52,7 @@ fn meet_children<Ix: IndexType, S: EdgeSource<Ix>>(
 ///
 /// # Complexity
 ///
-/// O(nodes + edges). It takes memory for two indices per node and a number per component.
+/// O(nodes + edges). It allocates memory for two indices per node and a number per component.
 ///
 /// # Examples
 ///

@@ -1,6 +1,6 @@
-//! What a node of a `Computed` has.
+//! The data of a node of a `Computed`.
 
-/// A node: what its value is computed from, and the value.
+/// The formula and the value of a node.
 ///
 /// # Examples
 ///
@@ -19,7 +19,7 @@ pub struct Cell<K, V> {
     pub formula: K,
     /// The value that was computed last, or `None` if none has been computed yet.
     pub value: Option<V>,
-    /// Whether the formula, the parents or the value of a parent has changed since then. If so, the
-    /// next refresh computes the value again.
+    /// Whether the formula, the parents or the value of a parent has changed since the value was
+    /// computed. If so, the next refresh computes it again.
     pub stale: bool,
 }

@@ -1,4 +1,4 @@
-//! Values that are computed along a dag: `Computed`.
+//! `Computed`: values that are computed from the values of parents in a dag.
 ghost use Rattle.std.specs.Prelude.{◌≡◌, ◌≢◌, ℕ, List, ◌+◌, ◌<◌, ◌↔◌, ◌⊎◌, Bool, true, Some, None, Ok, Err};
 ghost use Rattle.std.specs.Prelude.{IsTrue, Contains, IfOk, OnOk, IfErr, OnErr, IfSome, option_copied, []};
 ghost use Rattle.std.specs.Prelude.{map, reverse, vec_len};
@@ -49,7 +49,7 @@ use std::marker::Model;
 /// the values of its parents.
 ///
 /// A change makes nodes stale. [`refresh`](Computed::refresh) computes the stale nodes, parents
-/// before children, and a further node below them only if the value of one of its parents changed.
+/// before children, and any other node only if the value of one of its parents changed.
 ///
 /// # Examples
 ///
@@ -122,7 +122,7 @@ impl<K: Drop, V: Drop, E: Drop, Ix: IndexType, S> Computed<K, V, E, Ix, S>
 where
     S: Store<Ix, NodeWeight = K, EdgeWeight = E>,
 {
-    /// Creates one without nodes. Does not allocate.
+    /// Creates an empty `Computed`. Does not allocate.
     pub fn new(alloc: Global) -> Self
         ensures { result ≡ record { graph = empty; changed = [] } }
     {
@@ -135,7 +135,7 @@ where
         }
     }
 
-    /// Returns the dag, to read. The weight of a node is its formula.
+    /// Returns a shared reference to the dag. The weight of a node is its formula.
     pub fn dag(&self) -> &Acyclic<K, E, Ix, S>
         ensures { result.now.graph ≡ formulas self.now.graph }
     {
@@ -197,8 +197,8 @@ where
     }
 
     /// Returns a shortest path from `a` to `b`, as its nodes in order, or `None` if no path leads
-    /// from `a` to `b`. Where [`set_parents`](Computed::set_parents) refuses `b` as a parent of
-    /// `a`, the path and the refused edge form the cycle.
+    /// from `a` to `b`. If [`set_parents`](Computed::set_parents) rejects `b` as a parent of `a`
+    /// because of a cycle, the cycle is this path and the edge from `b` back to `a`.
     ///
     /// # Errors
     ///
@@ -206,7 +206,21 @@ where
     ///
     /// # Complexity
     ///
-    /// That of [`Acyclic::path`].
+    /// The same as [`Acyclic::path`].
+    ///
+    /// # Examples
+    ///
+    /// ```
+    /// let mut sums: ComputedDag<u32, u32, ()> = ComputedDag::new(rt.alloc());
+    /// let hens = sums.add(3)?;
+    /// let birds = sums.add(10)?;
+    /// let parents = Vec::from_array(rt.alloc(), [(hens, ())])?;
+    /// assert!(rt; sums.set_parents(birds, 10, parents).is_ok());
+    /// // `birds` cannot become a parent of `hens`: this path and that edge would be a cycle.
+    /// let path = sums.path(hens, birds)?;
+    /// assert!(rt; path.is_some_and(|nodes| nodes.as_slice() == [hens, birds].as_slice()));
+    /// assert!(rt; sums.path(birds, hens)?.is_none());
+    /// ```
     pub fn path(
         &mut self,
         a: NodeIndex<Ix>,
@@ -225,7 +239,7 @@ where
     ///
     /// # Complexity
     ///
-    /// O(stale nodes), plus those that were stale and have been removed since the last refresh.
+    /// O(nodes that are stale, or were stale when they were removed since the last refresh).
     ///
     /// # Examples
     ///
@@ -253,8 +267,7 @@ where
     ///
     /// # Complexity
     ///
-    /// O(k log k + edges) for the k ancestors of the node and the edges that enter them or the
-    /// node.
+    /// O(k log k + m) for the k ancestors of the node and the m edges that enter them or the node.
     pub fn is_up_to_date(&mut self, n: NodeIndex<Ix>) -> Result<bool, AllocError>
         ensures exact { IfOk result (λ b. IsTrue b ↔ IsUpToDate self.old.graph (Ix.number n)) }
         ensures unchanged { self.new ≡ self.old }
@@ -264,7 +277,28 @@ where
     }
 
     /// Returns the nodes whose values were new in the last refresh, parents before children, even
-    /// if that refresh ended early. Nodes that have been removed since then are still among them.
+    /// if that refresh ended early. Nodes that have been removed since then are still included.
+    ///
+    /// # Examples
+    ///
+    /// ```
+    /// fn sum(own: &u32, inputs: Inputs<'_, u32>) -> Result<u32, ()> {
+    ///     Ok(inputs.fold(*own, |total, value| total.wrapping_add(*value)))
+    /// }
+    /// let mut sums: ComputedDag<u32, u32, ()> = ComputedDag::new(rt.alloc());
+    /// let hens = sums.add(3)?;
+    /// let ducks = sums.add(4)?;
+    /// let birds = sums.add(0)?;
+    /// let parents = Vec::from_array(rt.alloc(), [(hens, ()), (ducks, ())])?;
+    /// assert!(rt; sums.set_parents(birds, 0, parents).is_ok());
+    /// assert!(rt; sums.refresh(sum).is_ok());
+    /// let _three = sums.set(hens, 5);
+    /// assert!(rt; sums.refresh(sum).is_ok());
+    /// assert!(rt; sums.changed() == [hens, birds].as_slice());
+    /// // A value that equals the old one is not new.
+    /// sums.invalidate(ducks);
+    /// assert!(rt; sums.refresh(sum).is_ok() && sums.changed().is_empty());
+    /// ```
     pub fn changed(&self) -> &[NodeIndex<Ix>]
         ensures { map Ix.number result.now ≡ self.now.changed }
     {
@@ -298,10 +332,10 @@ where
         }
     }
 
-    /// Adds a node with a formula and without parents. It is stale.
+    /// Adds a node with a formula and without parents. The new node is stale.
     ///
-    /// This reserves the memory for all marks, so a node can be changed, invalidated and removed
-    /// without allocating.
+    /// This reserves the memory that is needed to note which nodes are stale, so that a node can
+    /// later be changed, invalidated or removed without allocating.
     ///
     /// # Requires
     ///
@@ -365,7 +399,7 @@ where
         self.queue.put(n);
     }
 
-    /// Replaces the formula of a node, and returns the old one. The node is stale then. Does not
+    /// Replaces the formula of a node, and returns the old one. The node becomes stale. Does not
     /// allocate.
     ///
     /// # Requires
@@ -386,8 +420,8 @@ where
     }
 
     /// Replaces the formula of a node and the edges that enter it, all of them or none, and returns
-    /// the old formula. The node is stale then. Its inputs are the values of these parents, in this
-    /// order, so a parent may occur more than once.
+    /// the old formula. The node becomes stale. Its inputs are the values of these parents, in this
+    /// order; a parent may occur more than once.
     ///
     /// # Requires
     ///
@@ -405,6 +439,21 @@ where
     /// # Complexity
     ///
     /// The same as `set_parents` of a dag.
+    ///
+    /// # Examples
+    ///
+    /// ```
+    /// let mut sums: ComputedDag<u32, u32, ()> = ComputedDag::new(rt.alloc());
+    /// let hens = sums.add(3)?;
+    /// let birds = sums.add(10)?;
+    /// let parents = Vec::from_array(rt.alloc(), [(hens, ())])?;
+    /// assert!(rt; matches!(sums.set_parents(birds, 20, parents), Ok(10)));
+    /// // The error of a cycle holds the formula and the parents, and nothing has changed.
+    /// let parents = Vec::from_array(rt.alloc(), [(birds, ())])?;
+    /// let refused = sums.set_parents(hens, 4, parents);
+    /// assert!(rt; matches!(refused, Err((4, ParentsError::WouldCycle(_)))));
+    /// assert!(rt; sums.formula(hens) == Some(&3));
+    /// ```
     pub fn set_parents(
         &mut self,
         n: NodeIndex<Ix>,
@@ -441,10 +490,10 @@ where
         Ok(self.set(n, formula))
     }
 
-    /// Removes a node with its edges, and returns its formula, its value and its mark. Its children
-    /// are stale then. Does not allocate.
+    /// Removes a node with its edges, and returns its formula, its value and whether it was stale.
+    /// Its children become stale. Does not allocate.
     ///
-    /// In a [`ComputedDag`] the node with the last index gets the index of this node. In a
+    /// In a [`ComputedDag`] the node with the last index is moved into the freed index. In a
     /// [`StableComputedDag`] no other index changes.
     ///
     /// # Requires
@@ -497,9 +546,9 @@ impl<K: Drop, V: Drop, E: Copy, Ix: IndexType, S> Computed<K, V, E, Ix, S>
 where
     S: Store<Ix, NodeWeight = K, EdgeWeight = E>,
 {
-    /// Returns the parents of a node in the order in which the edges were added, each with the weight
-    /// of its edge. [`set_parents`](Computed::set_parents) takes such items, so a replaced formula can
-    /// be put back with its parents.
+    /// Returns the parents of a node in the order in which the edges were added, each with the
+    /// weight of its edge. [`set_parents`](Computed::set_parents) takes such items, so a replaced
+    /// formula can later be restored together with its parents.
     ///
     /// # Errors
     ///
@@ -521,10 +570,10 @@ where
     S: Store<Ix, NodeWeight = K, EdgeWeight = E>,
 {
     /// Computes the stale nodes, parents before children. `f` is called with the formula of a node
-    /// and the values of its parents, in the order in which the edges were added. If the value that
-    /// `f` returns equals the last one, the last one is kept; otherwise the value is new, and the
-    /// children of the node are stale. [`changed`](Computed::changed) returns the nodes whose
-    /// values were new.
+    /// and the values of its parents, in the order in which the edges were added. If `f` returns a
+    /// value that equals the node's old value, the old value is kept; otherwise the value is new,
+    /// and the children of the node become stale. [`changed`](Computed::changed) returns the nodes
+    /// whose values were new.
     ///
     /// A node is computed at most once, and only if it was stale before or the value of one of its
     /// parents was new.
@@ -537,13 +586,37 @@ where
     ///
     /// Returns `RefreshError::Failed` with the node if `f` returns an error, and
     /// `RefreshError::Memory` if an allocation fails. Nodes computed before the error keep their
-    /// new values. The others are still stale, so the next refresh continues with those.
+    /// new values. The others are still stale, so the next refresh continues with them.
     ///
     /// # Complexity
     ///
-    /// O(k log k + edges) for the k nodes that were stale or are computed, and for the edges that
-    /// enter or leave the computed ones, plus the calls. It allocates only for lists of parents and
-    /// of changed nodes that are longer than any before.
+    /// O(k log k + m) for the k nodes that were stale or are computed and the m edges that enter or
+    /// leave the computed nodes, plus the calls. It allocates only if a node has more parents, or
+    /// more nodes change, than in any refresh before.
+    ///
+    /// # Examples
+    ///
+    /// ```
+    /// // The parent's value divided by the formula. Without a parent, the formula itself.
+    /// fn share(by: &u32, mut inputs: Inputs<'_, u32>) -> Result<u32, &'static str> {
+    ///     match inputs.next() {
+    ///         Some(value) => value.checked_div(*by).ok_or("a division by zero"),
+    ///         None => Ok(*by),
+    ///     }
+    /// }
+    /// let mut shares: ComputedDag<u32, u32, ()> = ComputedDag::new(rt.alloc());
+    /// let eggs = shares.add(12)?;
+    /// let each = shares.add(0)?;
+    /// let parents = Vec::from_array(rt.alloc(), [(eggs, ())])?;
+    /// assert!(rt; shares.set_parents(each, 0, parents).is_ok());
+    /// let result = shares.refresh(share);
+    /// assert!(rt; matches!(result, Err(RefreshError::Failed(n, _)) if n == each));
+    /// // `eggs` was computed before the error. The next refresh computes only `each`.
+    /// assert!(rt; shares.changed() == [eggs].as_slice());
+    /// let _zero = shares.set(each, 4);
+    /// assert!(rt; shares.refresh(share).is_ok());
+    /// assert!(rt; shares.changed() == [each].as_slice() && shares.value(each) == Some(&3));
+    /// ```
     pub fn refresh<X: Drop, F: Fn(&K, Inputs<'_, V>) -> Result<V, X>>(
         &mut self,
         f: F,
@@ -574,12 +647,12 @@ where
         )
     }
 
-    /// Computes one node and what it needs: its stale ancestors and itself, parents before
-    /// children, and a further ancestor below them only if the value of one of its parents changed.
-    /// Other nodes stay as they are, except that the children of nodes whose values are new are
-    /// then stale.
+    /// Computes one node and what it needs: the node and its ancestors that are stale, parents
+    /// before children, and any other ancestor only if the value of one of its parents changed.
+    /// Other nodes are unchanged, except that the children of nodes whose values are new become
+    /// stale.
     ///
-    /// The function is as for [`refresh`](Computed::refresh), and [`changed`](Computed::changed)
+    /// `f` is called as in [`refresh`](Computed::refresh), and [`changed`](Computed::changed)
     /// returns the nodes whose values were new.
     ///
     /// # Requires
@@ -589,13 +662,13 @@ where
     /// # Errors
     ///
     /// Returns `RefreshError::Failed` with the node if `f` returns an error, and
-    /// `RefreshError::Memory` if an allocation fails. The nodes computed before the error then have
-    /// their values, and the others are still stale.
+    /// `RefreshError::Memory` if an allocation fails. Nodes computed before the error keep their
+    /// new values, and the others are still stale.
     ///
     /// # Complexity
     ///
-    /// O(k log k + edges) for the k ancestors of the node, the edges that enter them or the node,
-    /// and the edges that leave the nodes that are computed, plus the calls.
+    /// O(k log k + m) for the k ancestors of the node and the m edges that enter them or the node,
+    /// or leave a computed node, plus the calls.
     pub fn refresh_node<X: Drop, F: Fn(&K, Inputs<'_, V>) -> Result<V, X>>(
         &mut self,
         n: NodeIndex<Ix>,

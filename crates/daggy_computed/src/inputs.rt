@@ -8,7 +8,7 @@ use std::iter::{ExactSizeIterator, FusedIterator};
 use std::marker::Model;
 
 /// The values of the parents of a node, one for each edge that enters it, in the order in which the
-/// edges were added. It is an iterator over them.
+/// edges were added, as an iterator.
 #[derive(Drop)]
 pub struct Inputs<'a, V> {
     entries: &'a [Entry<V>],
@@ -36,7 +36,7 @@ impl<'a, V> Inputs<'a, V> {
         Inputs { entries, parents }
     }
 
-    /// The value at a position among those that are left, or `None` if there are fewer.
+    /// The value at position `i` among those not yet yielded, or `None` if there are fewer.
     pub fn get(&self, i: usize) -> Option<&'a V>
         ensures { option_copied result ≡ slice_get self.now i }
     {

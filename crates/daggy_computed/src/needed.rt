@@ -1,4 +1,4 @@
-//! One node computed, with those that it needs.
+//! Computing one node and the nodes that it needs.
 ghost use Rattle.std.specs.Prelude.{◌≡◌, ◌≢◌, ◌↔◌, ◌⊎◌, ℕ, List, map, Contains, vec_len, IsTrue};
 ghost use Rattle.std.specs.Prelude.{IfOk, OnOk, IfErr, OnErr};
 ghost use Rattle.daggy_base.specs.Graph.{HasNode};

@@ -1,4 +1,4 @@
-//! The stale nodes computed again.
+//! Recomputing the stale nodes.
 ghost use Rattle.std.specs.Prelude.{◌≡◌, ◌≢◌, ◌<◌, ◌≤◌, ◌⊎◌, ℕ, List, map, length, Contains, vec_len};
 ghost use Rattle.std.specs.Prelude.{IsNone, IfOk, OnOk, IfErr, OnErr, IfSome, slice_index_or};
 ghost use Rattle.daggy_base.specs.Ordered.{IsOrderOf, place};

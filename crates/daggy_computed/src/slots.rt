@@ -1,4 +1,4 @@
-//! What is kept of nodes as they come and go.
+//! Values and marks of nodes that are added and removed.
 ghost use Rattle.std.specs.Prelude.{◌≡◌, ◌≢◌, ◌<◌, ◌≤◌, ◌↔◌, ◌⊎◌, ℕ, IsTrue, OnOk, None, true, map, Contains, vec_len, vec_capacity};
 ghost use Rattle.daggy_base.specs.declared.kind.Kind.TheVariants.{Compact as InOneRow};
 ghost use Rattle.daggy_computed.specs.Cells.{blank, entry_at, IsStaleAt};

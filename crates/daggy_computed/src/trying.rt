@@ -1,4 +1,4 @@
-//! Methods that test what `add`, `set` and the like require.
+//! Methods that test what `add`, `set` and similar methods require.
 ghost use Rattle.std.specs.Prelude.{◌≡◌, ◌≢◌, ℕ, List, ◌+◌, ◌<◌, ◌≤◌, ◌↔◌, ◌⊎◌, Bool, true, Some, None, Err};
 ghost use Rattle.std.specs.Prelude.{IsTrue, IfOk, OnOk, IfErr, OnErr, IfSome, IsSome, IfNone, OnSome};
 ghost use Rattle.std.specs.Prelude.{map, reverse, vec_len};
@@ -71,7 +71,7 @@ where
     }
 
     /// Makes a node stale as [`invalidate`](Computed::invalidate) does, if it exists. Returns
-    /// whether it does.
+    /// whether it exists.
     ///
     /// # Examples
     ///
@@ -211,7 +211,7 @@ where
     }
 
     /// Removes a node with its edges as [`remove`](Computed::remove) does, and returns its formula,
-    /// its value and its mark, if the node exists.
+    /// its value and whether it was stale, if the node exists.
     ///
     /// # Complexity
     ///

@@ -72,13 +72,13 @@ fn edges_between<
 }
 
 /// The condensation of a graph with all edges between components, as a dag of either kind: a node
-/// for each component, with its members, and, for each edge between two components, an edge between
-/// the nodes that stand for them, with the weight that `f` returns. Edges within a component are
-/// left out.
+/// for each component, with the list of its members as its weight, and, for each edge between two
+/// components, an edge between their nodes, with the weight that `f` returns. Edges within a
+/// component are left out.
 ///
-/// Node `k` is the component `k`. The edges stand in the order of their indices in the graph, and
-/// `f` is called for them in this order. A node of the graph reaches another if and only if its
-/// component reaches the other node's component.
+/// Node `k` is the component `k`. The edges are in the order of their indices in the graph, and `f`
+/// is called in this order. A node of the graph reaches another if and only if its component
+/// reaches the other node's component.
 ///
 /// [`condensed_dag`](crate::condensed_dag) has only one edge for each pair of components that edges
 /// connect.

@@ -1,5 +1,4 @@
-//! What each condensation is made of: nodes with the members of the components, and the dag of these
-//! and of edges.
+//! The nodes of a condensation, and the dag that is made from nodes and edges.
 ghost use Rattle.std.specs.Prelude.{◌≡◌, ℕ, IfOk, map, length, vec_len, slice_get};
 ghost use Rattle.std.specs.Option.{option_map};
 ghost use Rattle.daggy_base.specs.Graph.{slot, IsCompact};
@@ -39,7 +38,7 @@ pub fn nodes_of<Ix: IndexType>(
     Ok(slots)
 }
 
-/// The dag of these slots, which have no cycle.
+/// Builds a dag from these slots, which have no cycle.
 pub fn dag_of<Ix: IndexType, W: Drop, T>(
     alloc: Global,
     nodes: Nodes<Ix>,

@@ -13,9 +13,9 @@ use daggy_components::{Components, condensation_slots};
 use daggy_dag::acyclic::Acyclic;
 use std::alloc::{AllocError, Global};
 
-/// The condensation of a graph, as a dag of either kind: a node for each component, with its
-/// members, and an edge for each pair of components that edges connect, with the smallest index of
-/// these edges.
+/// The condensation of a graph, as a dag of either kind: a node for each component, with the list
+/// of its members as its weight, and an edge for each pair of components that edges connect, with
+/// the smallest index of these edges as its weight.
 ///
 /// Node `k` is the component `k`. A node of the graph reaches another if and only if its component
 /// reaches the other node's component.

@@ -1,4 +1,5 @@
-//! A dag of the components of a graph, with the weights of the edges between two of them folded.
+//! A dag of the components of a graph, with the weights of all edges between two components folded
+//! into one.
 ghost use Rattle.std.specs.Prelude.{◌≡◌, ℕ, ◌<◌, ◌≤◌, ◌⊎◌, Some, None, IfOk, OnOk, IfSome, IfNone};
 ghost use Rattle.std.specs.Prelude.{IsSome, map, vec_len, slice_index};
 ghost use Rattle.daggy_base.specs.Graph.{slot, IsCompact};
@@ -142,13 +143,14 @@ fn folded_edges<
     Ok(slots)
 }
 
-/// The condensation of a graph with the weights of its edges folded, as a dag of either kind: a node
-/// for each component, with its members, and an edge for each pair of components that edges connect,
-/// with what `f` makes of the weights of these edges.
+/// The condensation of a graph with the weights of its edges folded, as a dag of either kind: a
+/// node for each component, with the list of its members as its weight, and an edge for each pair
+/// of components that edges connect, with a weight that `f` folds from the weights of these edges.
 ///
 /// For each edge between two components, `f` is called with its own result for the previous edge
-/// between these components, or with `None` for the first. The edges of a component are read member
-/// by member, each list from its front. Edges within a component are left out.
+/// between these components, or with `None` for the first. The edges that leave a component are
+/// visited member by member, each member's out list from its first edge to its last. Edges within a
+/// component are left out.
 ///
 /// Node `k` is the component `k`. A node of the graph reaches another if and only if its component
 /// reaches the other node's component.

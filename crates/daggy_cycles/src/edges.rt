@@ -21,7 +21,7 @@ fn next_place(k: usize, len: usize) -> usize
 }
 
 /// The edges of a cycle that is given by its nodes: one from each node to the next, and one from
-/// the last node to the first. If there are parallel edges, it is the newest of them.
+/// the last node to the first. Of parallel edges it is the newest.
 ///
 /// # Requires
 ///
@@ -71,7 +71,7 @@ pub fn cycle_edges<Ix: IndexType, S: ReadStore<Ix>>(
 /// The edges of a cycle of the graph, or `None` if the graph is acyclic.
 ///
 /// Each edge ends at the node where the next one starts, and the last ends where the first starts.
-/// No node is passed twice. An edge from a node to itself is a cycle of one edge.
+/// No node occurs twice. An edge from a node to itself is a cycle of one edge.
 ///
 /// # Errors
 ///

@@ -1,4 +1,4 @@
-//! Edges to leave out so that a graph has no cycle.
+//! Edges whose removal makes a graph acyclic.
 ghost use Rattle.std.specs.Prelude.{◌≡◌, ℕ, ◌<◌, ◌≤◌, ◌++◌, ◌∷◌, IfOk, OnOk, Some, false, List, [], map};
 ghost use Rattle.std.specs.Prelude.{replicate, Contains};
 ghost use Rattle.std.specs.List.{range_with_len};
@@ -106,12 +106,14 @@ fn sort_by_index<Ix: IndexType>(edges: &mut Vec<EdgeIndex<Ix>>)
 /// A feedback arc set: edges without which the graph has no cycle. The set is minimal under
 /// inclusion: if any one of its edges stays, there is a cycle.
 ///
-/// These are exactly the edges that a dag refuses if they are added to it one by one: first the
-/// preferred ones in their order, then all others by ascending index. An edge that is given twice
-/// counts once, and an index of no edge is ignored.
+/// These are exactly the edges that a dag would reject if all edges of the graph were added to it
+/// one by one: first the preferred edges in their order, then all others in ascending index order.
+/// If a preferred edge is given twice, the second time is ignored, and so is an index that is not
+/// an edge.
 ///
-/// The result is in ascending index order. So if its edges are removed from the last to the first,
-/// the other indices stay valid in a compact graph too.
+/// The result is in ascending index order. So its edges can be removed from the last to the first:
+/// even in a compact graph, no removal then changes the index of an edge that is still to be
+/// removed.
 ///
 /// # Errors
 ///
@@ -119,8 +121,8 @@ fn sort_by_index<Ix: IndexType>(edges: &mut Vec<EdgeIndex<Ix>>)
 ///
 /// # Complexity
 ///
-/// Finding the components takes O(nodes + edges). The other edges with both ends in the same
-/// component are added to a dag one by one; each may need a search within that component.
+/// Finding the components takes O(nodes + edges). The edges whose endpoints are in the same
+/// component are then added to a dag one by one; each may need a search within that component.
 ///
 /// # Examples
 ///

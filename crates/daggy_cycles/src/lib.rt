@@ -1,4 +1,4 @@
-//! Cycles of a graph, and which edges to leave out so that it has none.
+//! Cycles of a graph, and edges whose removal makes it acyclic.
 #![tactic(auto)]
 
 mod edges;

@@ -47,8 +47,8 @@ fn way_to<Ix: IndexType>(
 
 /// The nodes of a shortest cycle through a node, or `None` if the node is on no cycle.
 ///
-/// The node itself comes first; each is joined to the next, and the last to the first. None of them
-/// occurs twice.
+/// The given node comes first. An edge leads from each node to the next, and from the last to the
+/// first. No node occurs twice.
 ///
 /// # Errors
 ///

@@ -109,7 +109,7 @@ pub struct Acyclic<N, E, Ix: IndexType, S: EdgeSource<Ix, NodeWeight = N, EdgeWe
     edge_weight: PhantomData<E>,
 }
 
-/// A dag whose indices are compact: the nodes are numbered from 0 to their count, and so are the
+/// A dag whose indices are compact: the nodes are numbered from 0 without gaps, and so are the
 /// edges.
 ///
 /// A removal moves the last element into the freed index. If indices must outlive removals, use
@@ -132,7 +132,8 @@ pub type Dag<N, E, Ix = DefaultIx> = Acyclic<N, E, Ix, DiGraph<N, E, Ix>>;
 /// A dag whose indices outlive removals.
 ///
 /// Nodes and edges are stored in slots. A removal vacates a slot and changes no other index; the
-/// slot vacated last is reused first. If indices need not last, [`Dag`] is more compact.
+/// slot vacated last is reused first. If indices need not outlive removals, use [`Dag`], which has
+/// no vacant slots.
 ///
 /// # Examples
 ///
@@ -482,7 +483,7 @@ where
     /// `b`, or adds an edge as [`add_edge`](Acyclic::add_edge) does if there is none. Returns the
     /// index of that edge.
     ///
-    /// If there is such an edge the call cannot fail, and the old weight is dropped.
+    /// If there is such an edge, the call cannot fail, and the old weight is dropped.
     ///
     /// # Requires
     ///
@@ -643,8 +644,8 @@ where
 
     /// Removes an edge and returns its weight, or `None` if there is no such edge.
     ///
-    /// In a [`Dag`] the edge with the last index gets its index. In a [`StableDag`] no other index
-    /// changes, and the next edge that is added gets this index.
+    /// In a [`Dag`] the edge with the last index is moved into the freed index. In a [`StableDag`]
+    /// no other index changes, and the next edge that is added gets the freed index.
     ///
     /// # Complexity
     ///
@@ -677,9 +678,9 @@ where
     /// Removes a node with its edges and returns its weight, or `None` if there is no such node.
     ///
     /// The edges are removed one by one, as by [`remove_edge`](Acyclic::remove_edge), first the
-    /// edges to its children. In a [`Dag`] the node with the last index then gets the index of this
-    /// node. In a [`StableDag`] no other index changes, and the next node that is added gets this
-    /// index.
+    /// edges to its children. In a [`Dag`] the node with the last index is then moved into the
+    /// freed index. In a [`StableDag`] no other index changes, and the next node that is added gets
+    /// the freed index.
     ///
     /// # Complexity
     ///

@@ -118,7 +118,7 @@ pub fn write_label<D: Display + Drop, W: Write>(text: D, f: &mut Formatter<W>) -
 }
 
 /// Writes an attribute with a value's text, escaped as [`write_label`] does, and a space after it.
-/// The name is not escaped: `color`, `shape` and so on.
+/// The name, such as `color` or `shape`, is not escaped.
 ///
 /// # Errors
 ///

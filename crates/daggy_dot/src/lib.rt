@@ -1,4 +1,4 @@
-//! Pictures of dags, in the language of graphviz.
+//! Pictures of dags, in graphviz's language DOT.
 #![tactic(auto)]
 
 mod direction;

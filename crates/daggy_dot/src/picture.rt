@@ -1,4 +1,4 @@
-//! Graphs in the language of graphviz.
+//! Graphs in graphviz's language DOT.
 ghost use Rattle.std.specs.Prelude.{◌≡◌, true, length, map, vec_items, IfOk, Some};
 ghost use Rattle.std.specs.Fmt.{DisplaysOnOk, WritesOnOk, ◌++?◌};
 ghost use Rattle.std.specs.List.{flat_map};
@@ -24,7 +24,7 @@ use std::alloc::{AllocError, Global};
 use std::fmt::{self, Display, Formatter, Write};
 use std::marker::{Model, PhantomData};
 
-/// A graph that is displayed in graphviz's language DOT, as:
+/// A graph that `Display` writes in graphviz's language DOT, for example:
 ///
 ///     digraph {
 ///         0 [ label = "sow" ]
@@ -323,7 +323,7 @@ where
     }
 
     /// Draws a box, with its name above, around the nodes for which the closure returns the same
-    /// name. Names are compared by the text that they display.
+    /// name. Names are compared by their displayed text.
     ///
     /// # Requires
     ///
@@ -422,7 +422,7 @@ where
     ///
     /// # Complexity
     ///
-    /// Expected O(length of the path), and expected O(1) for each node and edge when it is
+    /// Expected O(length of the path), and expected O(1) for each node and edge when the picture is
     /// displayed.
     pub fn bold(self, alloc: Global, path: &[NodeIndex<Ix>]) -> Result<Self, AllocError>
         ensures rest { IfOk result (λ dot. dot ≡ record self.entry { marks = dot.marks }) }

@@ -1,4 +1,4 @@
-//! Whether an edge may be added to an acyclic graph, and the order that then holds.
+//! Whether an edge may be added to an acyclic graph, and the topological order with that edge.
 ghost use Rattle.std.specs.Prelude.{◌≡◌, ℕ, ◌+◌, ◌<◌, ◌≤◌, ◌↔◌, true, false, IsTrue};
 ghost use Rattle.daggy_base.specs.Graph.{HasNode, node_bound, edge_count};
 ghost use Rattle.daggy_base.specs.Path.{AreJoined, Reaches};
@@ -50,9 +50,9 @@ fn parents_stand_before<Ix: IndexType, S: ReadStore<Ix>>(
 /// Updates the order for a new edge from `a` to `b` if that needs no search. Returns false, with the
 /// order unchanged, if it may need one.
 ///
-/// If no edge leads to `a`, it is moved to the front, and if it has few parents and all of them
-/// precede `b`, it is moved right before `b`. So nodes that are added after their children, as when
-/// each node depends on older ones, need no search.
+/// If no edge leads to `a`, it is moved to the front; if `a` has few parents and all of them
+/// precede `b`, it is moved right before `b`. So no search is needed if each node is added after
+/// its children.
 #[inline]
 pub fn order_without_search<Ix: IndexType, S: ReadStore<Ix>>(
     store: &S,

@@ -1,4 +1,4 @@
-//! Whether an edge may be added to an acyclic graph, and the order that then holds.
+//! Whether an edge may be added to an acyclic graph, and the topological order with that edge.
 #![tactic(auto)]
 
 pub mod edge_order;

@@ -1,4 +1,4 @@
-//! Graphs as documents in a format.
+//! A graph together with the format in which it is displayed.
 ghost use Rattle.std.specs.Prelude.{◌≡◌, length};
 ghost use Rattle.std.specs.Fmt.{DisplaysOnOk};
 ghost use Rattle.daggy_formats.specs.Document.{node_lines, edge_lines};
@@ -10,7 +10,7 @@ use daggy_base::source::EdgeSource;
 use std::fmt::{self, Display, Formatter, Write};
 use std::marker::{Model, PhantomData};
 
-/// A graph that displays itself in a format, as made by [`mermaid`], [`graphml`], [`node_table`] or
+/// A graph that is displayed in a format, as made by [`mermaid`], [`graphml`], [`node_table`] or
 /// [`edge_table`].
 ///
 /// The nodes come in ascending index order, then the edges in ascending index order, each with its
@@ -65,7 +65,7 @@ where
     }
 }
 
-/// A graph as a flowchart of [`Mermaid`].
+/// A graph as a [`Mermaid`] flowchart.
 ///
 /// # Examples
 ///

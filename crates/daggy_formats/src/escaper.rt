@@ -77,7 +77,7 @@ impl<X: Escape, W: Write> Write for Escaper<'_, X, W> {
     }
 }
 
-/// Writes the text that a value displays, escaped.
+/// Writes the displayed text of a value, escaped.
 ///
 /// # Errors
 ///

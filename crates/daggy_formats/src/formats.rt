@@ -108,7 +108,8 @@ pub trait Format {
         ensures { WritesOnOk W.write_str_gives f.old result footer f.new };
 }
 
-/// A Mermaid flowchart. Many forges and wikis draw a fenced code block with such text as a picture:
+/// A Mermaid flowchart. Many code hosts and wikis draw a fenced code block with such text as a
+/// picture:
 ///
 ///     flowchart TD
 ///         0["sow"]

@@ -1,4 +1,4 @@
-//! Graphs in the formats of other programs.
+//! Graphs in formats that other programs read.
 #![tactic(auto)]
 
 mod document;

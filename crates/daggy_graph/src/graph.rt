@@ -47,8 +47,8 @@ use std::marker::Model;
 
 /// A directed graph. Parallel edges and self-loops are allowed.
 ///
-/// Its nodes are numbered from 0 to their count, and so are its edges. A removal moves the last
-/// node or edge into the freed index. All operations are O(1) unless stated otherwise.
+/// Its nodes are numbered from 0 without gaps, and so are its edges. A removal moves the last node
+/// or edge into the freed index. All operations are O(1) unless stated otherwise.
 ///
 /// `Ix` is the integer type of the indices. It limits the number of nodes and the number of edges.
 ///
@@ -154,7 +154,7 @@ impl<N, E, Ix: IndexType> DiGraph<N, E, Ix> {
     }
 
     /// Adds an edge from `a` to `b`. Its index is the previous edge count, and it is first in the
-    /// lists of `a` and of `b`.
+    /// out list of `a` and in the in list of `b`.
     ///
     /// # Requires
     ///
@@ -210,7 +210,7 @@ impl<N, E, Ix: IndexType> DiGraph<N, E, Ix> {
         }
     }
 
-    /// The first edge of the node's out list or in list, or `end` if that list is empty.
+    /// The first edge of the node's list in direction `dir`, or `end` if that list is empty.
     ///
     /// # Examples
     ///
@@ -236,8 +236,8 @@ impl<N, E, Ix: IndexType> DiGraph<N, E, Ix> {
         }
     }
 
-    /// The edge after this one in the out list of its parent, or in the in list of its child, or
-    /// `end` if this one is the last.
+    /// The edge after this one in its list in direction `dir`, or `end` if this one is the last.
+    /// The list is the out list of its parent or the in list of its child.
     ///
     /// # Requires
     ///

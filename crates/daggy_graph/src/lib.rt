@@ -1,4 +1,4 @@
-//! The compact store: a graph whose nodes are numbered without gaps, and so are its edges.
+//! The compact store: a graph whose nodes and edges are each numbered without gaps.
 #![tactic(auto)]
 
 pub mod graph;

@@ -1,4 +1,4 @@
-//! Batches of edges: all or none.
+//! Batches of edges, of which all or none are added.
 ghost use Rattle.std.specs.Prelude.{◌≡◌, ℕ, ◌+◌, ◌<◌, ◌≤◌, ◌↔◌, ◌⊎◌, true, false, max, List, [], ◌∷◌};
 ghost use Rattle.std.specs.Prelude.{◌++◌, length, map, reverse, vec_len, vec_capacity, Contains};
 ghost use Rattle.std.specs.Prelude.{IfOk, OnOk, IfErr, OnErr};

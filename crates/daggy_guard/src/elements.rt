@@ -1,4 +1,4 @@
-//! Graphs made of lists of nodes and edges.
+//! Graphs made from lists of nodes and edges.
 ghost use Rattle.std.specs.Prelude.{◌≡◌, ◌<◌, OnOk, OnErr, IfErr, MatchOption, ℕ};
 ghost use Rattle.std.specs.Iterator.{IsFinite, IsFiniteIterable};
 ghost use Rattle.daggy_base.specs.Graph.{HasNode};

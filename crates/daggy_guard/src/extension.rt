@@ -1,4 +1,4 @@
-//! Edges added one by one, each after the nodes that it needs.
+//! Adding edges one by one, each after the nodes that it needs.
 ghost use Rattle.std.specs.Prelude.{◌≡◌, ℕ, ◌+◌, ◌<◌, ◌≤◌, OnOk, OnErr, IfErr};
 ghost use Rattle.std.specs.Iterator.{IsFinite, IsFiniteIterable};
 ghost use Rattle.daggy_base.specs.Graph.{edge_count};
@@ -101,8 +101,8 @@ impl<Ix: IndexType, S: Store<Ix>> Guarded<Ix, S> {
         Ok(())
     }
 
-    /// Adds the edges that `items` yields, one by one, up to the first one that fails. What was added
-    /// stays.
+    /// Adds the edges that `items` yields, one by one, up to the first one that fails. The edges
+    /// and nodes added so far stay.
     pub fn extend_with_edges<
         T: IntoWeightedEdge<S::EdgeWeight, NodeId = NodeIndex<Ix>>,
         I: IntoIterator<Item = T>,

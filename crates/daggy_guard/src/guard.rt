@@ -1,4 +1,4 @@
-//! The changes that keep any store acyclic. Both kinds of dag are made of them.
+//! The changes to a store that keep it acyclic. The methods of both kinds of dag call them.
 ghost use Rattle.std.specs.Prelude.{◌≡◌, ℕ, ◌+◌, ◌<◌, ◌≤◌, ◌↔◌, ◌⊎◌, true, false, List, Contains};
 ghost use Rattle.std.specs.Prelude.{map, Err, None, IfOk, OnOk, IfErr, OnErr, OnSome, IfSome};
 ghost use Rattle.std.specs.Prelude.{IfNone, IsOkAnd};
@@ -31,8 +31,8 @@ use daggy_visit::prefetch::{PREFETCH_FROM, touch_neighbors};
 use std::alloc::{AllocError, Global};
 use std::marker::{Model, PhantomData};
 
-/// A store whose graph is acyclic, with a topological order of its nodes and the memory of
-/// searches, which fits searches of the graph.
+/// A store whose graph is acyclic, with a topological order of its nodes and with memory for
+/// searches of the graph.
 #[derive(Drop)]
 pub struct Guarded<Ix: IndexType, S: EdgeSource<Ix>> {
     #[doc(hidden)]
@@ -61,7 +61,7 @@ impl<Ix: IndexType, S: EdgeSource<Ix>> Model for Guarded<Ix, S> {
 }
 
 impl<Ix: IndexType, S: ReadStore<Ix>> Guarded<Ix, S> {
-    /// Does nothing. Called only for its postcondition: what always holds.
+    /// Does nothing. Called only for its postcondition, the invariant of the type.
     #[inline]
     pub fn invariant(&self)
         ensures dag { IsDag Ix.greatest self.now.graph }
@@ -85,7 +85,8 @@ impl<Ix: IndexType, S: Store<Ix>> Guarded<Ix, S> {
         }
     }
 
-    /// A store with an order of its nodes, and a scratch that fits searches of its graph.
+    /// Combines a store, a topological order of its nodes, and a scratch that is large enough for
+    /// searches of its graph.
     pub fn from_parts(store: S, order: Order<Ix>, scratch: Scratch<Ix>) -> Self
         requires ordered { IsOrderOf (S.graph store) order }
         requires fits { node_bound (S.graph store) ≤ scratch.nodes }

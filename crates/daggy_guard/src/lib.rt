@@ -1,4 +1,4 @@
-//! All changes of a store, one at a time or many at once, that keep it acyclic, and the queries
+//! All changes to a store, one at a time or many at once, that keep it acyclic, and the queries
 //! that are the same for both kinds of dag.
 #![tactic(auto)]
 

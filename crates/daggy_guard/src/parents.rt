@@ -121,10 +121,11 @@ fn order_up_to<Ix: IndexType, S: ReadStore<Ix>>(
 }
 
 /// Updates the order so that the parent of each item precedes `n`. Returns false if `n` reaches one
-/// of them.
+/// of these parents.
 ///
-/// It searches once, for the parent that is last in the order. The nodes before that parent that
-/// `n` reaches are moved after it, so that each other parent then precedes `n`, or is reached too.
+/// It searches once, for the parent that is last in the order. The nodes that `n` reaches and that
+/// precede this parent are moved after it. Each other parent then precedes `n`, unless `n` reaches
+/// it.
 pub fn make_way_for_parents<Ix: IndexType, S: ReadStore<Ix>>(
     store: &mut S,
     order: &mut Order<Ix>,

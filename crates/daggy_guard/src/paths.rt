@@ -1,4 +1,4 @@
-//! Whether a path leads from one node to another, and which is shortest.
+//! Whether one node reaches another, and a shortest path between them.
 ghost use Rattle.std.specs.Prelude.{◌≡◌, ◌+◌, ◌≤◌, ◌↔◌, IsTrue, Ok, None, map, IfOk, IfSome};
 ghost use Rattle.daggy_order.specs.Paths.{IsShortestPath};
 ghost use Rattle.daggy_base.specs.Graph.{edge_count};
@@ -11,7 +11,7 @@ use daggy_order::order::{path_in, reaches_in};
 use std::alloc::AllocError;
 
 impl<Ix: IndexType, S: ReadStore<Ix>> Guarded<Ix, S> {
-    /// Whether a path leads from `a` to `b`, by the order.
+    /// Whether a path leads from `a` to `b`. Only nodes between them in the order are searched.
     pub fn reaches(&mut self, a: NodeIndex<Ix>, b: NodeIndex<Ix>) -> bool
         ensures decided { IsTrue result ↔ Reaches self.old.graph (Ix.number a) (Ix.number b) }
         ensures same { self.new.graph ≡ self.old.graph }
@@ -24,7 +24,7 @@ impl<Ix: IndexType, S: ReadStore<Ix>> Guarded<Ix, S> {
         reaches_in(&mut self.store, &mut self.order, a, b, &mut self.scratch)
     }
 
-    /// A shortest path from `a` to `b`, by the order.
+    /// A shortest path from `a` to `b`. Only nodes between them in the order are searched.
     pub fn path(
         &mut self,
         a: NodeIndex<Ix>,

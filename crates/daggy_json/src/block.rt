@@ -1,4 +1,4 @@
-//! A buffer of bytes for a writer, so that the writer is called for many of them at once.
+//! A buffer of bytes for a writer, so that the writer is called for many bytes at once.
 ghost use Rattle.std.specs.Prelude.{◌≡◌, ◌↔◌, ◌+◌, ◌<◌, ◌≤◌, [], ◌∷◌, ◌++◌, length, decimal, cond, IsTrue};
 ghost use Rattle.std.specs.Bool.{OnTrue, OnFalse};
 ghost use Rattle.daggy_json.specs.declared.block.TheConstants.{CAPACITY, LONGEST};

@@ -155,8 +155,8 @@ pub fn stable_to_json<
 }
 
 /// Writes the document of a dag of either kind to a writer, as compact text: the same bytes that
-/// `Value::to_vec` returns for the value of [`dag_to_json`], without making that value. It does not
-/// allocate, and does not flush the writer.
+/// `Value::to_vec` returns for the value of [`dag_to_json`], without building that value. It does
+/// not allocate, and does not flush the writer.
 ///
 /// `fn_node` encodes the weight of a node, and `fn_edge` the weight of an edge.
 ///
@@ -221,7 +221,7 @@ pub fn write_json<
 /// It does not allocate, and does not flush the writer.
 ///
 /// Each list of a dag is in descending index order if edges were only added. In a stable dag this
-/// remains so after removals, until an edge is added in a vacant slot.
+/// remains so after removals, until an edge is added to a vacant slot.
 ///
 /// `fn_node` encodes the weight of a node, and `fn_edge` the weight of an edge.
 ///
@@ -284,8 +284,8 @@ pub fn write_short_json<
 
 /// Reads a dag from a value in the format of [`dag_to_json`]. Unknown members are ignored. Without
 /// `orders` each list is in descending index order. Reading a written document restores the dag:
-/// its indices, the ends of its edges and its lists, with the weights that `fn_node` and `fn_edge`
-/// return for the encoded ones.
+/// its indices, the endpoints of its edges and its lists, with the weights that `fn_node` and
+/// `fn_edge` return for the encoded ones.
 ///
 /// `fn_node` and `fn_edge` read the weights, and return `None` for a value that is not a weight.
 ///
@@ -361,10 +361,10 @@ pub fn dag_from_json<
     read(alloc, value, &fn_node, &fn_edge)
 }
 
-/// Reads a stable dag from a value, as [`dag_from_json`] reads a dag. Node slots are vacant at the
-/// holes, and edge slots at `null`; the highest vacant slot is reused first. So a written document
-/// restores the dag, except for the order of its vacant slots and for vacant slots after the
-/// greatest index in use.
+/// Reads a stable dag from a value, as [`dag_from_json`] reads a dag. A node slot is vacant if
+/// `node_holes` lists it, and an edge slot if its entry is `null`; the highest vacant slot is
+/// reused first. So a written document restores the dag, except for the order of its vacant slots
+/// and for vacant slots after the greatest index in use.
 ///
 /// # Requires
 ///
@@ -444,8 +444,8 @@ pub fn stable_from_json<
 
 /// Reads a graph, which may have cycles, from a value in the format of [`dag_to_json`]. If
 /// [`dag_from_json`] or [`stable_from_json`] returns [`ReadError::Cycle`], this graph has the
-/// cycle, and `find_cycle` finds it. In a `StableDiGraph`, node slots are vacant at the holes, and
-/// edge slots at `null`. A `DiGraph` has no holes.
+/// cycle, and `find_cycle` finds it. In a `StableDiGraph`, a node slot is vacant if `node_holes`
+/// lists it, and an edge slot if its entry is `null`. A `DiGraph` has no vacant slots.
 ///
 /// # Requires
 ///

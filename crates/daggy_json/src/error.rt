@@ -68,16 +68,16 @@ pub enum ReadError {
     /// `edge_property` is not `directed`.
     #[error("not directed")]
     Property,
-    /// The entries of `node_holes` do not ascend, or one is too large. A compact dag has no holes.
+    /// The entries of `node_holes` do not ascend, or one is too large. A `Dag` has no holes.
     #[error("wrong holes")]
     Holes,
-    /// The index type has too few indices.
+    /// The index type has too few indices for the node slots or for the edge slots.
     #[error("no index left")]
     Full,
     /// A function that reads weights returned `None`.
     #[error("wrong weight")]
     Weight,
-    /// An edge has an end that does not exist.
+    /// An endpoint of an edge does not exist.
     #[error("no such endpoint")]
     BadEndpoint,
     /// `orders` does not permute the lists of each node.

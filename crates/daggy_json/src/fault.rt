@@ -21,13 +21,13 @@ pub enum Member {
     Document,
     /// The weights of the nodes.
     Nodes,
-    /// The vacant slots of nodes.
+    /// The vacant node slots.
     NodeHoles,
-    /// Whether edges are directed.
+    /// The member that says that edges are directed.
     EdgeProperty,
     /// The edges.
     Edges,
-    /// The lists of each node.
+    /// The order of each node's lists.
     Orders,
 }
 
@@ -58,7 +58,7 @@ impl fmt::Display for Member {
 pub struct Place {
     /// The member.
     pub member: Member,
-    /// The index of the entry, unless the member itself is meant.
+    /// The index of the entry, or `None` if the place is the member itself.
     pub entry: Option<usize>,
 }
 

@@ -22,7 +22,7 @@ use std::alloc::{AllocError, Global};
 /// Members are checked in this order: first whether `nodes`, `edge_property`, `edges` and
 /// `node_holes` are present and have the right type, then `edge_property`, `node_holes`, the
 /// numbers of slots, the weights of `nodes`, the entries of `edges`, and the entries of `orders`,
-/// one for each node. In the compact kind, the first hole is a fault.
+/// one for each node. With `Kind::Compact`, the first hole is a fault.
 ///
 /// # Requires
 ///

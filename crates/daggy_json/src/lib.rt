@@ -1,4 +1,4 @@
-//! Dags as JSON values: writing a store, reading a value into slots before a dag is made of them,
+//! Dags as JSON values: writing a store, reading a value into slots before a dag is made from them,
 //! and the methods for dags.
 #![tactic(auto)]
 

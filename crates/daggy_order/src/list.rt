@@ -40,8 +40,8 @@ impl<Ix: IndexType> Model for LabeledList<Ix> {
     ghost invariant = { λ o. IsLabelled o.links.labels o.links.nodes };
 }
 
-/// The run after the linked nodes: `count` consecutive indices from `from` on. Nodes below
-/// `index_bound` can be linked without allocating.
+/// The run of nodes after the linked nodes: `count` consecutive indices, starting at `from`. Nodes
+/// below `index_bound` can be linked without allocating.
 #[derive(Clone, Copy)]
 pub struct Tail {
     pub from: usize,
@@ -229,7 +229,7 @@ impl<Ix: IndexType> LabeledList<Ix> {
         self.links.label(a.index()) < self.links.label(b.index())
     }
 
-    /// The number of indices for which there is memory.
+    /// How many indices fit without another allocation.
     #[inline]
     pub fn capacity(&self) -> usize
         ensures { result ≡ self.now.capacity }
@@ -249,7 +249,7 @@ impl<Ix: IndexType> LabeledList<Ix> {
         Ok(self.links.capacity())
     }
 
-    /// Links the nodes of a tail, within the capacity. Returns the empty tail that is left.
+    /// Links the nodes of a tail, without allocating. Returns a tail that is now empty.
     #[inline]
     pub fn flush(&mut self, tail: Tail) -> Tail
         requires { IsTailed Ix.greatest self.old.nodes self.old.capacity tail.from tail.count
@@ -269,8 +269,8 @@ impl<Ix: IndexType> LabeledList<Ix> {
         }
     }
 
-    /// Puts the only node of a tail first, within the capacity. Returns the empty tail that is left,
-    /// which may grow within the capacity.
+    /// Links the only node of a tail at the front of the list, without allocating. Returns a tail
+    /// that is now empty and can grow within the capacity.
     pub fn link_first(&mut self, tail: Tail) -> Tail
         requires tailed { IsTailed Ix.greatest self.old.nodes self.old.capacity tail.from tail.count
             tail.index_bound }
@@ -319,7 +319,7 @@ impl<Ix: IndexType> LabeledList<Ix> {
         Ok(())
     }
 
-    /// Takes a node out, in O(1). Out of line, to keep `Order::remove` small where it is inlined.
+    /// Removes a node, in O(1). Out of line, to keep `Order::remove` small where it is inlined.
     #[inline(never)]
     pub fn remove(&mut self, n: NodeIndex<Ix>)
         requires { Contains self.old.nodes (Ix.number n) }
@@ -328,8 +328,8 @@ impl<Ix: IndexType> LabeledList<Ix> {
         take_out(&mut self.links, n);
     }
 
-    /// Renames a node to `m`, in its place, as when a graph moves its last node into a freed index.
-    /// O(1).
+    /// Replaces the node `n` with `m`, at the same position, as when a graph moves its last node
+    /// into a freed index. O(1).
     #[inline]
     pub fn rename(&mut self, n: NodeIndex<Ix>, m: NodeIndex<Ix>)
         requires held { Contains self.old.nodes (Ix.number n) }

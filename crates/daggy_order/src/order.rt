@@ -394,7 +394,7 @@ impl<Ix: IndexType> Order<Ix> {
     }
 
     /// The position of a node, counted from 0. To compare the positions of two nodes, use
-    /// [`stands_before`](Order::stands_before), which takes O(1).
+    /// [`stands_before`](Order::stands_before), which is O(1).
     ///
     /// # Requires
     ///

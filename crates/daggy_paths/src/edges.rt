@@ -7,7 +7,7 @@ use daggy_base::index::{EdgeIndex, IndexType, NodeIndex};
 use daggy_base::read_store::ReadStore;
 use std::alloc::{AllocError, Global};
 
-/// The edges along a path: from each node to the next the one that `find_edge` returns.
+/// The edges along a path: for each pair of consecutive nodes, the edge that `find_edge` returns.
 ///
 /// # Errors
 ///

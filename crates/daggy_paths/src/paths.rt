@@ -1,4 +1,4 @@
-//! Questions about the paths of an acyclic graph that is only borrowed.
+//! Queries about the paths of a borrowed acyclic graph.
 ghost use Rattle.std.specs.Prelude.{◌≡◌, ◌+◌, ◌≤◌, ◌↔◌, IsTrue, Ok, None, map, IfOk, IfSome, IfNone};
 ghost use Rattle.daggy_order.specs.Paths.{IsShortestPath};
 ghost use Rattle.daggy_base.specs.Graph.{edge_count as edge_count_of};
@@ -21,8 +21,8 @@ mod descendants;
 /// Answers queries about the paths of an acyclic graph that it borrows.
 ///
 /// It has its own memory for searches, so the graph can be read at the same time, as in a loop over
-/// the neighbors of a node, and several `Paths` can borrow one graph. Making one takes O(nodes), so
-/// use one for many queries.
+/// the neighbors of a node, and several `Paths` can borrow one graph. Creating a `Paths` takes
+/// O(nodes), so use one for many queries.
 ///
 /// # Examples
 ///

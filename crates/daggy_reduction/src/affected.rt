@@ -102,7 +102,7 @@ fn entered_nodes<Ix: IndexType>(
 }
 
 /// The existing nodes of `nodes` and all nodes reachable from them, each once, sorted by their
-/// positions in an order of all nodes.
+/// positions in `order`.
 ///
 /// # Requires
 ///
@@ -163,8 +163,8 @@ pub fn affected<Ix: IndexType, S: EdgeSource<Ix>>(
     Ok(found)
 }
 
-/// The descendants of `nodes`, each once, sorted by their positions in an order of all nodes: the
-/// nodes to which a path of one or more edges leads from one of `nodes`.
+/// The descendants of `nodes`, each once, sorted by their positions in `order`. These are the nodes
+/// to which a path of one or more edges leads from one of `nodes`.
 ///
 /// # Requires
 ///

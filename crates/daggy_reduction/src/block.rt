@@ -1,4 +1,5 @@
-//! The transitive closure of a block of nodes, by rows of bits, and the redundant edges into it.
+//! The transitive closure of a block of nodes, as rows of bits, and the redundant edges that enter
+//! the block.
 ghost use Rattle.std.specs.Prelude.{◌≡◌, ℕ, ◌+◌, ◌-◌, ◌*◌, ◌<◌, ◌≤◌, ◌↔◌, ◌⊎◌, [], true, false, map, replicate};
 ghost use Rattle.std.specs.Prelude.{length, take, slice_index_or, slice_set, Contains};
 ghost use Rattle.daggy_base.specs.Graph.{node_bound, edge_bound};

@@ -119,8 +119,8 @@ pub(crate) fn leave_redundant_by_blocks<Ix: IndexType, S: EdgeSource<Ix>, L: Lis
 }
 
 /// The same as [`redundant_edges_in`](crate::bounded::redundant_edges_in), found with rows of bits,
-/// for a block of 512 nodes at a time: the row of a node has the bits of those nodes in the block
-/// that the node reaches.
+/// for a block of 512 nodes at a time: the row of a node has a bit for each node of the block, set
+/// if the node reaches it.
 ///
 /// # Requires
 ///

@@ -1,4 +1,4 @@
-//! Whether two graphs have the same adjacent pairs of nodes.
+//! Whether the same pairs of nodes are adjacent in two graphs.
 ghost use Rattle.std.specs.Prelude.{◌≡◌, ℕ, ◌+◌, ◌*◌, ◌≤◌, ◌↔◌, ◌⊎◌, true, false, length};
 ghost use Rattle.std.specs.Prelude.{slice_index_or, IsTrue};
 ghost use Rattle.daggy_base.specs.Graph.{node_bound, edge_count, out_list};
@@ -96,8 +96,8 @@ fn joins_all<Ix: IndexType, A: EdgeSource<Ix>, B: EdgeSource<Ix>>(
     true
 }
 
-/// Whether two graphs have the same adjacent pairs of nodes. The worklist must have memory for the
-/// nodes of both.
+/// Whether the same pairs of nodes are adjacent in two graphs. The worklist must have memory for
+/// the nodes of both.
 ///
 /// # Complexity
 ///

@@ -1,4 +1,4 @@
-//! The nodes reachable from some roots, in a topological order.
+//! The nodes reachable from given roots, in a topological order.
 ghost use Rattle.std.specs.Prelude.{◌≡◌, ℕ, ◌+◌, ◌<◌, ◌≤◌, ◌↔◌, true, false, map, length, take};
 ghost use Rattle.std.specs.Prelude.{filter, slice_index, slice_index_or, slice_set, Contains};
 ghost use Rattle.daggy_base.specs.Graph.{node_bound, node_count, edge_count};

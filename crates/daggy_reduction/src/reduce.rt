@@ -33,8 +33,8 @@ pub fn remove_edges<Ix: IndexType, S: Store<Ix>>(store: &mut S, edges: &[EdgeInd
     }
 }
 
-/// Removes the edges that are redundant below the given roots: it finds them all first, and then
-/// removes them from the highest index down.
+/// Removes the redundant edges that are reachable from the given roots: it finds all of them first,
+/// and then removes them from the highest index down.
 ///
 /// # Requires
 ///
@@ -49,9 +49,9 @@ pub fn remove_edges<Ix: IndexType, S: Store<Ix>>(store: &mut S, edges: &[EdgeInd
 /// # Complexity
 ///
 /// One search for each node that the roots reach, limited to the nodes before that node's last
-/// child in `order`; or, where that is expected to read more edges, O(nodes * edges / 512) steps of
-/// 512 bits each, and O(edges) of them if each edge leads at most 512 positions ahead in `order`.
-/// Plus the cost of the removals.
+/// child in `order`. If processing the nodes in blocks of 512 is expected to read fewer edges, this
+/// is done instead, in O(nodes * edges / 512) steps of 512 bits each, or O(edges) steps if each
+/// edge leads at most 512 positions ahead in `order`. Plus the cost of the removals.
 ///
 /// # Examples
 ///

@@ -1,4 +1,4 @@
-//! How many edges searches would read, computed from the endpoints of all edges.
+//! The number of edges that searches would read, computed from the endpoints of all edges.
 ghost use Rattle.std.specs.Prelude.{◌≡◌, ◌≢◌, ℕ, ◌+◌, ◌<◌, ◌≤◌, ◌⊎◌, length, take, Contains, IsTrue};
 ghost use Rattle.std.specs.Prelude.{slice_index, slice_index_or, slice_set};
 ghost use Rattle.daggy_base.specs.Graph.{node_bound, edge_count, out_list};

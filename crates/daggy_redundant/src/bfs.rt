@@ -51,9 +51,9 @@ pub fn mark_unless_first<Ix: IndexType>(work: &mut Worklist<Ix>, head: usize, i:
     }
 }
 
-/// Extends the queue of a worklist, of `len` nodes, to everything reachable from them, breadth
-/// first, and returns its new length. The nodes in the queue are entered; the children of every node
-/// but the first are marked.
+/// Appends to the queue of a worklist, which has `len` nodes, all other nodes reachable from these,
+/// breadth first, and returns its new length. The nodes in the queue are entered; the children of
+/// all nodes but the first are marked.
 pub fn bfs<Ix: IndexType, S: EdgeSource<Ix>>(
     source: &mut S,
     work: &mut Worklist<Ix>,

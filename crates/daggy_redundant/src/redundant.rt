@@ -113,7 +113,9 @@ pub fn front<T>(list: &[T], count: usize) -> &[T]
     &list[..count]
 }
 
-/// The edges that are redundant below the given roots, each once, in ascending index order.
+/// The redundant edges that are reachable from the given roots, each once, in ascending index
+/// order: the edges whose parent a root reaches, and whose parent reaches their child by another
+/// path of two or more edges.
 ///
 /// The result borrows the scratch, whose capacity does not change.
 ///

@@ -1,4 +1,4 @@
-//! The nodes reachable from some roots.
+//! The nodes reachable from given roots.
 ghost use Rattle.std.specs.Prelude.{◌≡◌, ℕ, ◌+◌, ◌≤◌, ◌↔◌, true, false, map, take, List};
 ghost use Rattle.std.specs.Prelude.{slice_index_or, Contains};
 ghost use Rattle.daggy_base.specs.Graph.{HasNode, node_bound, edge_count};
@@ -89,7 +89,7 @@ fn lay_aside<Ix: IndexType>(work: &mut Worklist<Ix>, count: usize)
     }
 }
 
-/// Writes all nodes reachable from the existing roots over the first cursors, and returns how many
+/// Writes all nodes reachable from the existing roots to the first cursors, and returns how many
 /// there are.
 pub fn enter_below<Ix: IndexType, S: EdgeSource<Ix>>(
     source: &mut S,

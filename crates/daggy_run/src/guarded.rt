@@ -196,8 +196,8 @@ pub trait GuardedDag<N, E, Ix: IndexType> {
         ensures unchanged { OnErr result (graph self.new ≡ graph self.old) }
         ensures acyclic { IsAcyclic (graph self.new) };
 
-    /// Adds a node and an edge from `parent` to it, or neither. Returns the indices of the edge and
-    /// of the node.
+    /// Adds a node and an edge from `parent` to it, or neither. Returns the index of the edge and
+    /// the index of the node.
     ///
     /// # Requires
     ///
@@ -232,8 +232,8 @@ pub trait GuardedDag<N, E, Ix: IndexType> {
         ensures unchanged { OnErr result (graph self.new ≡ graph self.old) }
         ensures acyclic { IsAcyclic (graph self.new) };
 
-    /// Adds a node and an edge from it to `child`, or neither. Returns the indices of the edge and
-    /// of the node.
+    /// Adds a node and an edge from it to `child`, or neither. Returns the index of the edge and
+    /// the index of the node.
     ///
     /// # Requires
     ///
@@ -269,8 +269,8 @@ pub trait GuardedDag<N, E, Ix: IndexType> {
         ensures acyclic { IsAcyclic (graph self.new) };
 
     /// Adds all the edges, or none of them. Returns their indices in the order of `edges`. Unlike
-    /// [`add_edge`](GuardedDag::add_edge) it requires nothing: an endpoint that does not exist is
-    /// an error.
+    /// [`add_edge`](GuardedDag::add_edge) it has no precondition: an endpoint that does not exist
+    /// is an error.
     ///
     /// # Errors
     ///
@@ -282,7 +282,7 @@ pub trait GuardedDag<N, E, Ix: IndexType> {
     ///
     /// # Complexity
     ///
-    /// The same as `add_edges` of a dag: O(nodes + edges) edges are read.
+    /// The same as `add_edges` of a dag, which reads O(nodes + edges) edges.
     fn add_edges(&mut self, edges: Vec<NewEdge<E, Ix>>) -> Result<Vec<EdgeIndex<Ix>>, EdgesError<E>>
         ensures added { IfOk result (λ indices. AddsAll Ix.greatest (graph self.old)
             (map (by_numbers Ix.number) edges.items) (map Ix.number indices.items)
@@ -376,7 +376,7 @@ pub trait GuardedDag<N, E, Ix: IndexType> {
         ensures cleared { graph self.new ≡ empty }
         ensures acyclic { IsAcyclic (graph self.new) };
 
-    /// Removes the edges that are redundant below `roots`, from the highest index down.
+    /// Removes the redundant edges that are reachable from `roots`, from the highest index down.
     ///
     /// # Errors
     ///
@@ -407,8 +407,8 @@ pub trait GuardedDag<N, E, Ix: IndexType> {
             ≡ first_of Ix.greatest (out_list (graph self.now) (Ix.number n)) };
 
     /// The child of an edge, and the next edge in the out list of its parent, or `end` if the given
-    /// edge is the last. With [`first_child`](GuardedDag::first_child) it iterates over the
-    /// children of a node without allocating.
+    /// edge is the last. With [`first_child`](GuardedDag::first_child) it can be used to iterate
+    /// over the children of a node without allocation.
     ///
     /// # Requires
     ///

@@ -11,7 +11,7 @@ use std::alloc::{AllocError, Global};
 mod levels;
 pub mod stages;
 
-/// Plans the nodes of a dag in stages.
+/// Plans the nodes of a dag in the fewest possible stages, each node after its parents.
 ///
 /// # Errors
 ///

@@ -16,7 +16,8 @@ use std::alloc::Global;
 ///
 /// # Errors
 ///
-/// Returns the commands if memory for the replies cannot be allocated; none was carried out.
+/// Returns the commands if memory for the replies cannot be allocated; in that case none was
+/// carried out.
 ///
 /// # Complexity
 ///

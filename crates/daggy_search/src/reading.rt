@@ -49,7 +49,7 @@ impl<'a, Ix: IndexType, S: ReadStore<Ix>> Model for Reading<'a, Ix, S> {
 }
 
 impl<'a, Ix: IndexType, S: ReadStore<Ix>> Reading<'a, Ix, S> {
-    /// A view of `store`, through which no edge has been read yet.
+    /// A view of `store`, with a count of 0 edge reads.
     pub fn new(store: &'a S) -> Self
         ensures { result ≡ record { graph = S.graph store.now; looks = 0 } }
     {

@@ -49,7 +49,7 @@ impl<'a, Ix: IndexType, S: ReadStore<Ix>> Model for Reversed<'a, Ix, S> {
 }
 
 impl<'a, Ix: IndexType, S: ReadStore<Ix>> Reversed<'a, Ix, S> {
-    /// A view of `store` with all edges reversed, through which no edge has been read yet.
+    /// A view of `store` with all edges reversed, with a count of 0 edge reads.
     pub fn new(store: &'a S) -> Self
         ensures { result ≡ record { graph = reversed (S.graph store.now); looks = 0 } }
     {

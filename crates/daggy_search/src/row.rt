@@ -3,7 +3,7 @@ ghost use Rattle.std.specs.Prelude.{◌≡◌, ℕ, ◌<◌, ◌↔◌, ◌⊎�
 
 use std::marker::Model;
 
-/// How many nodes a block has at most.
+/// The greatest number of nodes in a block.
 pub const BLOCK: usize = 512;
 
 /// A bit for each node of a block.

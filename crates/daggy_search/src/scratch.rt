@@ -116,7 +116,7 @@ impl<Ix: IndexType> Scratch<Ix> {
 
     /// Makes room for searches of graphs with these bounds or smaller ones: `node_bound` is one
     /// more than the greatest node index, and `edge_bound` one more than the greatest edge index.
-    /// [`fits`](Scratch::fits) returns whether there is room already.
+    /// [`fits`](Scratch::fits) returns whether there is already enough room.
     ///
     /// # Errors
     ///

@@ -139,7 +139,7 @@ impl<N, E, Ix: IndexType> StableDiGraph<N, E, Ix> {
         }
     }
 
-    /// The first edge of the node's out list or in list, or `end` if that list is empty.
+    /// The first edge of the node's list in direction `dir`, or `end` if that list is empty.
     #[inline]
     pub fn first_edge(&self, n: NodeIndex<Ix>, dir: Direction) -> EdgeIndex<Ix>
         ensures { Ix.number result
@@ -156,8 +156,8 @@ impl<N, E, Ix: IndexType> StableDiGraph<N, E, Ix> {
         }
     }
 
-    /// The edge after this one in the out list of its parent, or in the in list of its child, or
-    /// `end` if this one is the last.
+    /// The edge after this one in its list in direction `dir`, or `end` if this one is the last.
+    /// The list is the out list of its parent or the in list of its child.
     ///
     /// # Requires
     ///

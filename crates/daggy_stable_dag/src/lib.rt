@@ -1,4 +1,4 @@
-//! The dag whose indices outlive removals, under the names that go with it.
+//! The stable dag, whose indices outlive removals, and the types that its methods use.
 #![tactic(auto)]
 
 pub mod stable_dag;

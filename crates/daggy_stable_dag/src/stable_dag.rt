@@ -1,4 +1,4 @@
-//! The stable dag, whose indices outlive removals, and the types of its methods.
+//! The stable dag, whose indices outlive removals, and the types that its methods use.
 use daggy_base::index::DefaultIx;
 pub use daggy_base::index::{EdgeIndex, NodeIndex};
 use daggy_dag::acyclic;

@@ -28,13 +28,13 @@ use std::marker::Model;
 ///
 /// For proofs: [`next`](Bfs::next) requires that no node or edge has been added or removed since
 /// [`new`](Bfs::new), and ensures that this still holds at the next call. A struct that has both
-/// the graph and this walk states this once, as a field `ghost under_way: { IsBreadthFirst (S.graph
-/// graph.now) walk }`.
+/// the graph and the walk can state this once, as a field `ghost under_way: { IsBreadthFirst
+/// (S.graph graph.now) walk }`.
 ///
 /// # Complexity
 ///
-/// O(nodes + edges) for a whole walk. [`new`](Bfs::new) allocates all the memory; no other call
-/// does.
+/// O(nodes + edges) for a whole walk. [`new`](Bfs::new) allocates all the memory; no other method
+/// allocates.
 ///
 /// # Examples
 ///
@@ -83,8 +83,8 @@ impl<Ix: IndexType> Model for Bfs<Ix> {
 }
 
 impl<Ix: IndexType> Bfs<Ix> {
-    /// A walk that starts from the node `start`, along the edges or against them. If the node does
-    /// not exist, the walk yields nothing.
+    /// A walk that starts at the node `start` and follows the edges forward or backward. If the
+    /// node does not exist, the walk yields nothing.
     ///
     /// # Errors
     ///
@@ -123,7 +123,7 @@ impl<Ix: IndexType> Bfs<Ix> {
     /// Returns the next node, or `None` if no reachable node is left.
     ///
     /// The start comes first. The neighbors of a node come in the order of its list, after the
-    /// neighbors of each node that came before that node.
+    /// neighbors of each node that was returned before it.
     ///
     /// # Requires
     ///

@@ -30,13 +30,13 @@ use std::marker::Model;
 ///
 /// For proofs: [`next`](Dfs::next) requires that no node or edge has been added or removed since
 /// [`new`](Dfs::new), and ensures that this still holds at the next call. A struct that has both
-/// the graph and this walk states this once, as a field `ghost under_way: { IsDepthFirst (S.graph
+/// the graph and the walk can state this once, as a field `ghost under_way: { IsDepthFirst (S.graph
 /// graph.now) walk }`.
 ///
 /// # Complexity
 ///
-/// O(nodes + edges) for a whole walk. [`new`](Dfs::new) allocates all the memory; no other call
-/// does.
+/// O(nodes + edges) for a whole walk. [`new`](Dfs::new) allocates all the memory; no other method
+/// allocates.
 ///
 /// # Examples
 ///
@@ -91,8 +91,8 @@ impl<Ix: IndexType> Model for Dfs<Ix> {
 }
 
 impl<Ix: IndexType> Dfs<Ix> {
-    /// A walk that starts from the node `start`, along the edges or against them. If the node does
-    /// not exist, the walk yields nothing.
+    /// A walk that starts at the node `start` and follows the edges forward or backward. If the
+    /// node does not exist, the walk yields nothing.
     ///
     /// # Errors
     ///

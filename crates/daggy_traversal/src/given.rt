@@ -16,7 +16,7 @@ impl Model for Given {
 }
 
 impl Given {
-    /// No node was yielded.
+    /// An empty list: no node has been yielded yet.
     #[inline]
     pub fn new() -> Given
         ensures { result.nodes ≡ [] }
@@ -31,7 +31,7 @@ impl Given {
         Given {}
     }
 
-    /// One more node was yielded.
+    /// Appends a node that was yielded.
     #[inline]
     pub fn push(&mut self, n: usize)
         ensures { self.new.nodes ≡ self.old.nodes ++ n ∷ [] }

@@ -8,8 +8,8 @@ use daggy_base::index::{Direction, EdgeIndex, IndexType, NodeIndex};
 use daggy_base::read_store::ReadStore;
 use daggy_visit::visit::NodeSet;
 
-/// The other end of the edge `e`, and the edge after `e` in its list, or `end`. Returns `None` if
-/// there is no edge `e`.
+/// The other endpoint of the edge `e`, and the edge after `e` in its list, or `end`. Returns `None`
+/// if there is no edge `e`.
 #[inline]
 pub fn next_neighbor<Ix: IndexType, S: ReadStore<Ix>>(
     graph: &S,
@@ -39,8 +39,8 @@ fn far_end<Ix: IndexType>(
     }
 }
 
-/// The first neighbor that was not met, from the edge `e` on, and the edge after it. Returns `None`
-/// if there is none.
+/// Searches a list, from the edge `e` to its end, for a neighbor that is not in `met`. Returns the
+/// first such neighbor and the edge after the one that leads to it, or `None`.
 #[inline]
 pub fn next_new<Ix: IndexType, S: ReadStore<Ix>>(
     graph: &S,

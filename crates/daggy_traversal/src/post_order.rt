@@ -29,13 +29,13 @@ use std::marker::Model;
 ///
 /// For proofs: [`next`](DfsPostOrder::next) requires that no node or edge has been added or removed
 /// since [`new`](DfsPostOrder::new), and ensures that this still holds at the next call. A struct
-/// that has both the graph and this walk states this once, as a field `ghost under_way: {
+/// that has both the graph and the walk can state this once, as a field `ghost under_way: {
 /// IsPostorder (S.graph graph.now) walk }`.
 ///
 /// # Complexity
 ///
 /// O(nodes + edges) for a whole walk. [`new`](DfsPostOrder::new) allocates all the memory; no other
-/// call does.
+/// method allocates.
 ///
 /// # Examples
 ///
@@ -90,8 +90,8 @@ impl<Ix: IndexType> Model for DfsPostOrder<Ix> {
 }
 
 impl<Ix: IndexType> DfsPostOrder<Ix> {
-    /// A walk that starts from the node `start`, along the edges or against them. If the node does
-    /// not exist, the walk yields nothing.
+    /// A walk that starts at the node `start` and follows the edges forward or backward. If the
+    /// node does not exist, the walk yields nothing.
     ///
     /// # Errors
     ///

@@ -1,4 +1,4 @@
-//! A list of flags, one bit each.
+//! A list of flags of one bit each.
 ghost use Rattle.std.specs.Prelude.{◌≡◌, ℕ, ◌+◌, ◌-◌, ◌*◌, ◌<◌, ◌≤◌, ◌⊎◌, ◌↔◌, List, Bool, true, false};
 ghost use Rattle.std.specs.Prelude.{not, length};
 ghost use Rattle.std.specs.Prelude.{slice_set, slice_index_or, replicate, OnOk, OnErr, IfOk, IsOk};
@@ -85,8 +85,8 @@ impl Bits {
         (word >> (i % 64)) & 1 == 0
     }
 
-    /// Sets the flags in `count` words, from the word `to` on, that are set in as many words from the
-    /// word `from` on.
+    /// Sets in the `count` words starting at word `to` each flag that is set in the `count` words
+    /// starting at word `from`.
     pub fn unite_words(&mut self, to: usize, from: usize, count: usize)
         requires to { 64 * (to + count) ≤ length self.old }
         requires from { 64 * (from + count) ≤ length self.old }

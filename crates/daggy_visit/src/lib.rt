@@ -1,4 +1,4 @@
-//! Visit traits for generic code, sets and matrices of nodes, and a step along a list of a store.
+//! Traits for generic code, sets and matrices of nodes, and the step of a walker along a list.
 #![tactic(auto)]
 
 pub mod bits;

@@ -10,7 +10,7 @@ use daggy_base::index::{Direction, EdgeIndex, IndexType, NodeIndex};
 use daggy_base::read_store::ReadStore;
 
 /// A graph with at least this many edges is expected not to fit the second-level cache, so that a
-/// prefetch pays.
+/// prefetch is worth its cost.
 pub const PREFETCH_FROM: usize = 1 << 15;
 
 // The greatest number of edges of a list that are read side by side with other lists.
@@ -51,8 +51,8 @@ fn touch_next<Ix: IndexType, S: ReadStore<Ix>>(
     Some(answer)
 }
 
-/// Reads lists side by side from the edges with these indices on, if the graph is large, until one
-/// list is left or 512 edges of each are read. Always returns true.
+/// In a large graph, reads several lists in step, each from the edge with the index in `cursors`,
+/// until only one list is left or 512 edges of each have been read. Always returns true.
 #[inline(never)]
 pub fn touch_lists<Ix: IndexType, S: ReadStore<Ix>>(
     graph: &S,

@@ -2,8 +2,8 @@
 //!
 //! [`GraphBase`] and [`Data`] name the types of a graph, [`DataMap`] and [`DataMapMut`] give access
 //! to its weights, and [`NodeCount`] and [`NodeIndexable`] return the number of its nodes and the
-//! bound of their indices. [`Visitable`] makes sets of nodes, and [`GetAdjacencyMatrix`] the
-//! adjacency matrix.
+//! bound of their indices. [`Visitable`] creates sets of nodes, and [`GetAdjacencyMatrix`] creates
+//! the adjacency matrix.
 //!
 //! The contracts of these traits describe a graph by its lists of edges.
 mod adj_matrix;

@@ -7,8 +7,8 @@ ghost use Rattle.daggy_base.specs.Cursor.{IsWalkStep};
 use daggy_base::index::{Direction, EdgeIndex, IndexType, NodeIndex};
 use daggy_base::read_store::ReadStore;
 
-/// Returns the edge under the cursor with its far end, if that edge exists, and moves the cursor to
-/// the edge after it in its list.
+/// Returns the edge under the cursor with its other endpoint, if that edge exists, and moves the
+/// cursor to the edge after it in its list.
 #[inline]
 pub fn step<Ix: IndexType, S: ReadStore<Ix>>(
     store: &S,

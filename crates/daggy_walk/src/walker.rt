@@ -73,8 +73,8 @@ pub trait Walker<G>: Drop {
     ///
     /// # Requires
     ///
-    /// - The walker may take a step over `graph`: always if it calls no closure, and otherwise if
-    ///   its closure may be called with the next item.
+    /// - The walker may take a step over `graph`: if it calls a closure, the closure may be called
+    ///   with the next item.
     ///
     /// # Complexity
     ///
@@ -110,7 +110,7 @@ pub trait Walker<G>: Drop {
         None
     }
 
-    /// The rest of the walk as an iterator that borrows the graph.
+    /// Turns the rest of the walk into an iterator that borrows the graph.
     #[inline]
     final fn iter<'a>(self, graph: &'a G) -> WalkerIter<'a, G, Self>
     where
@@ -122,7 +122,7 @@ pub trait Walker<G>: Drop {
     }
 }
 
-/// A walker that ends over any graph that does not change during the walk.
+/// A walker whose walk ends on any graph that does not change during the walk.
 ///
 /// # Examples
 ///

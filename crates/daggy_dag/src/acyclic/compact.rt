@@ -1,4 +1,4 @@
-//! The methods that only the compact dag has, or that differ for it.
+//! The methods that only the compact dag has, or that are implemented separately for it.
 mod copies;
 mod iterators;
 mod map;

@@ -28,8 +28,8 @@ where
     ///
     /// # Complexity
     ///
-    /// O(k log k + edges) for k nodes found and the edges that leave them. The first search after
-    /// nodes have been added also takes O(node bound).
+    /// O(k log k + m) for k nodes found and m edges that leave them. The first search after nodes
+    /// have been added also takes O(node bound).
     ///
     /// # Examples
     ///
@@ -69,7 +69,7 @@ where
     ///
     /// # Complexity
     ///
-    /// O(k log k + edges) for k nodes found and the edges that leave them or `nodes`.
+    /// O(k log k + m) for k nodes found and m edges that leave them or `nodes`.
     ///
     /// # Examples
     ///
@@ -113,7 +113,7 @@ where
     ///
     /// # Complexity
     ///
-    /// O(k log k + edges) for k nodes found and the edges that enter them or `nodes`.
+    /// O(k log k + m) for k nodes found and m edges that enter them or `nodes`.
     ///
     /// # Examples
     ///

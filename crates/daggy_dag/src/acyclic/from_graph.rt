@@ -1,4 +1,4 @@
-//! Dags made of graphs that may have cycles.
+//! Dags made from graphs that may have cycles.
 ghost use Rattle.std.specs.Prelude.{◌≡◌, ◌+◌, ◌*◌, ◌≤◌, IfOk, IfErr};
 ghost use Rattle.daggy_base.specs.Graph.{edge_count as edge_count_of};
 ghost use Rattle.daggy_base.specs.Path.{IsAcyclic};

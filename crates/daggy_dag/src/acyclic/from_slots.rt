@@ -28,8 +28,8 @@ where
     ///
     /// # Requires
     ///
-    /// - `makes_graph`: The index type has an index for each slot, and both ends of each edge are
-    ///   nodes: slots that are not `None`.
+    /// - `makes_graph`: The index type has an index for each slot, and both endpoints of each edge
+    ///   are nodes: slots that are not `None`.
     /// - `compact`: In a `Dag` no slot is `None`.
     ///
     /// # Errors

@@ -1,4 +1,4 @@
-//! The graph of a dag, to read or to keep.
+//! The graph inside a dag: reading it, and taking it out.
 ghost use Rattle.std.specs.Prelude.{◌≡◌};
 ghost use Rattle.daggy_base.specs.Path.{IsAcyclic};
 ghost use Rattle.daggy_base.specs.Ordered.{IsOrderOf};
@@ -16,9 +16,9 @@ impl<N: Drop, E: Drop, Ix: IndexType, S> Acyclic<N, E, Ix, S>
 where
     S: ReadStore<Ix, NodeWeight = N, EdgeWeight = E>,
 {
-    /// A shared reference to the graph inside, which cannot be changed through it. Use it for the
-    /// methods of the graph, for the traits of `visit`, and for searches and traversals that take
-    /// any graph.
+    /// A shared reference to the graph inside, through which the graph cannot be changed. Use it
+    /// for the methods of the graph, for the traits of `visit`, and for searches and traversals
+    /// that take any graph.
     ///
     /// # Examples
     ///
@@ -56,7 +56,8 @@ where
         self.guarded.scratch.allocator()
     }
 
-    /// Returns the graph inside, without copying it. It is no longer kept acyclic.
+    /// Returns the graph inside, without copying it. From then on, edges that close a cycle can be
+    /// added to it.
     ///
     /// # Examples
     ///

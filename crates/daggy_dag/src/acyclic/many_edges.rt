@@ -26,11 +26,11 @@ where
     /// [`add_edge`](Acyclic::add_edge); the update itself never fails. After the first edge that
     /// closes a cycle the order is no longer updated.
     ///
-    /// The dag is not searched for each edge if that would cost too much: when an edge needs a
-    /// search, and either the batch is large compared with the dag, or earlier searches have read
-    /// as many edges as the dag had nodes, or as it had edges, before the call. Then all nodes are
-    /// sorted once at the end instead, by Kahn's algorithm (1962), or by a depth-first search if an
-    /// allocation for that fails.
+    /// If searching for each edge would cost too much, all nodes are sorted once at the end
+    /// instead, by Kahn's algorithm (1962), or by a depth-first search if an allocation for that
+    /// fails. This is done if an edge needs a search, and either the batch is large compared with
+    /// the dag, or earlier searches have read as many edges as the dag had nodes or edges before
+    /// the call, whichever is more.
     ///
     /// # Requires
     ///
@@ -44,8 +44,8 @@ where
     ///
     /// # Complexity
     ///
-    /// A batch reads O(nodes + edges) edges, whatever its own edges are. An edge that agrees with
-    /// the dag's order takes amortized O(1).
+    /// A batch of k edges reads O(nodes + edges + k) edges in all. An edge that agrees with the
+    /// dag's order takes amortized O(1).
     ///
     /// # Examples
     ///
@@ -90,11 +90,15 @@ where
     ///
     /// # Errors
     ///
-    /// Each error holds the weight of the edge that failed: `EdgeError::Full` if an endpoint is
-    /// `end` or the index type has no index left for the edge, `EdgeError::NodeMemory` if an
-    /// allocation for a missing node fails, `EdgeError::BadEndpoint` if an endpoint is a vacant
-    /// slot, `EdgeError::WouldCycle` if the edge would close a cycle, and `EdgeError::Memory` if an
-    /// allocation for the edge fails. Nodes that were added for that edge are kept, too.
+    /// Each error holds the weight of the edge that failed. Nodes that were added for that edge are
+    /// kept too.
+    ///
+    /// - `EdgeError::Full` if an endpoint is `end`, or if the index type has no index left for the
+    ///   edge.
+    /// - `EdgeError::NodeMemory` if an allocation for a missing node fails.
+    /// - `EdgeError::BadEndpoint` if an endpoint is the index of a vacant slot.
+    /// - `EdgeError::WouldCycle` if the edge would close a cycle.
+    /// - `EdgeError::Memory` if an allocation for the edge fails.
     ///
     /// # Complexity
     ///
@@ -144,12 +148,15 @@ where
     ///
     /// # Errors
     ///
-    /// Returns the error of the first edge that fails, with the weight of that edge:
-    /// `EdgeError::Full` if an endpoint is `end` or the index type has no index left for the edge,
-    /// `EdgeError::NodeMemory` if an allocation for a missing node fails, `EdgeError::WouldCycle`
-    /// if the edge would close a cycle, and `EdgeError::Memory` if an allocation for the edge
-    /// fails. What was made before is dropped, so to keep the other weights use
+    /// Returns the error of the first edge that fails, with the weight of that edge. The dag built
+    /// so far is dropped; to get all weights back after an error, use
     /// [`add_edges`](Acyclic::add_edges).
+    ///
+    /// - `EdgeError::Full` if an endpoint is `end`, or if the index type has no index left for the
+    ///   edge.
+    /// - `EdgeError::NodeMemory` if an allocation for a missing node fails.
+    /// - `EdgeError::WouldCycle` if the edge would close a cycle.
+    /// - `EdgeError::Memory` if an allocation for the edge fails.
     ///
     /// # Complexity
     ///
@@ -199,7 +206,7 @@ where
     ///
     /// # Errors
     ///
-    /// Stops at the first element that fails: the error holds its weight, and what was made before
+    /// Stops at the first element that fails: the error holds its weight, and the dag built so far
     /// is dropped.
     ///
     /// # Complexity

@@ -1,4 +1,4 @@
-//! Whether a path leads from one node to another, and which is shortest, as nodes or as edges.
+//! Whether one node reaches another, and a shortest path between them, as nodes or as edges.
 ghost use Rattle.std.specs.Prelude.{◌≡◌, ◌+◌, ◌≤◌, ◌↔◌, IsTrue, Ok, None, map, IfOk, IfSome};
 ghost use Rattle.daggy_order.specs.Paths.{IsShortestPath};
 ghost use Rattle.daggy_base.specs.Graph.{edge_count as edge_count_of};

@@ -21,7 +21,8 @@ where
     ///
     /// # Requires
     ///
-    /// - `f` may be called at each node, whatever the weights of the dag are at that time.
+    /// - `f` may be called with each node and with the graph, whatever the weights in it are at
+    ///   that time.
     ///
     /// # Complexity
     ///
@@ -62,12 +63,13 @@ where
     ///
     /// # Requires
     ///
-    /// - `f` may be called at each node, whatever the weights of the dag are at that time.
+    /// - `f` may be called with each node and with the graph, whatever the weights in it are at
+    ///   that time.
     ///
     /// # Errors
     ///
-    /// Returns the first error that `f` returns. Then the nodes before the one that failed have
-    /// their new weights, and the others are unchanged.
+    /// Returns the first error that `f` returns. The nodes before the one that failed, in
+    /// topological order, then have their new weights, and the others are unchanged.
     ///
     /// # Complexity
     ///

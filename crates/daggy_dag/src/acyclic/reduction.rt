@@ -37,14 +37,15 @@ impl<N: Drop, E: Drop, Ix: IndexType, S> Acyclic<N, E, Ix, S>
 where
     S: Store<Ix, NodeWeight = N, EdgeWeight = E>,
 {
-    /// Removes the edges that are redundant below `roots`. An edge is redundant below them if one
-    /// of the roots reaches its parent, and its parent reaches its child by another path of two or
-    /// more edges. Reachability is unchanged. If the roots reach all nodes, the result is the
-    /// transitive reduction of the dag (Aho, Garey and Ullman 1972), except for parallel edges.
+    /// Removes the redundant edges that are reachable from `roots`: the edges whose parent a root
+    /// reaches, and whose parent reaches their child by another path of two or more edges.
+    /// Reachability is unchanged. If the roots reach all nodes, the result is the transitive
+    /// reduction of the dag (Aho, Garey and Ullman 1972), except for parallel edges.
     ///
-    /// A parallel edge is not such a path, so the edges from one node to another are either all
-    /// removed or all kept. Missing roots are ignored. The edges are removed from the highest index
-    /// down, each as by [`remove_edge`](Acyclic::remove_edge), and their weights are dropped.
+    /// A parallel edge alone does not make an edge redundant, so the edges from one node to another
+    /// are either all removed or all kept. Missing roots are ignored. The edges are removed from
+    /// the highest index down, each as by [`remove_edge`](Acyclic::remove_edge), and their weights
+    /// are dropped.
     ///
     /// # Errors
     ///
@@ -53,10 +54,11 @@ where
     /// # Complexity
     ///
     /// One search for each node that the roots reach, limited to the nodes before that node's last
-    /// child in the dag's order; or, where that is expected to read more edges, O(nodes * edges /
-    /// 512) steps of 512 bits each, and O(edges) of them if each edge leads at most 512 positions
-    /// ahead in that order, with 80 bytes of memory for each node and, with `u32` indices, 12 bytes
-    /// for each edge; the dag keeps this memory. Plus the cost of the removals.
+    /// child in the dag's order. If processing the nodes in blocks of 512 is expected to read fewer
+    /// edges, this is done instead, in O(nodes * edges / 512) steps of 512 bits each, or O(edges)
+    /// steps if each edge leads at most 512 positions ahead in that order. The blocks take 80 bytes
+    /// of memory for each node and, with `u32` indices, 12 bytes for each edge, which the dag
+    /// keeps. Plus the cost of the removals.
     ///
     /// # Examples
     ///

@@ -1,4 +1,4 @@
-//! The methods that only the stable dag has, or that differ for it.
+//! The methods that only the stable dag has, or that are implemented separately for it.
 mod convert;
 mod copies;
 mod iterators;

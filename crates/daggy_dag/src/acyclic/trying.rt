@@ -1,4 +1,5 @@
-//! Methods that add nodes and edges, and test what `add_node`, `add_edge` and the like require.
+//! Methods that test what `add_node`, `add_edge` and similar methods require, and then add nodes
+//! and edges.
 ghost use Rattle.std.specs.Prelude.{◌≡◌, ◌+◌, ◌<◌, ◌≤◌, ◌↔◌, ◌⊎◌, Err, None, IfOk, IfErr, OnErr};
 ghost use Rattle.std.specs.Prelude.{IfSome, IsOkAnd};
 ghost use Rattle.daggy_base.specs.Graph.{HasNode, node_count as node_count_of};
@@ -71,10 +72,10 @@ where
     ///
     /// # Errors
     ///
-    /// Returns, in this order, `EdgeError::BadEndpoint` if an endpoint does not exist,
-    /// `EdgeError::Full` if the index type has no index left, `EdgeError::WouldCycle` if `b`
-    /// already reaches `a`, and `EdgeError::Memory` if an allocation fails. Each error holds the
-    /// weight, and the dag is unchanged.
+    /// Returns the first of these errors that applies: `EdgeError::BadEndpoint` if an endpoint does
+    /// not exist, `EdgeError::Full` if the index type has no index left, `EdgeError::WouldCycle` if
+    /// `b` already reaches `a`, and `EdgeError::Memory` if an allocation fails. Each error holds
+    /// the weight, and the dag is unchanged.
     ///
     /// # Complexity
     ///
@@ -190,10 +191,10 @@ where
     ///
     /// # Errors
     ///
-    /// Returns, in this order, `TryChildError::Missing` if `parent` does not exist,
-    /// `TryChildError::Full` if the index type has no index left for the node or for the edge, and
-    /// `TryChildError::Memory` if an allocation fails. Each error holds both weights, and the dag is
-    /// unchanged.
+    /// Returns the first of these errors that applies: `TryChildError::Missing` if `parent` does
+    /// not exist, `TryChildError::Full` if the index type has no index left for the node or for the
+    /// edge, and `TryChildError::Memory` if an allocation fails. Each error holds both weights, and
+    /// the dag is unchanged.
     ///
     /// # Complexity
     ///

@@ -73,7 +73,7 @@ impl<N, E, Ix: IndexType> DiGraph<N, E, Ix> {
         self.nodes.reserve(additional)
     }
 
-    /// Reserves the least capacity for `additional` more nodes.
+    /// Reserves the minimum capacity for `additional` more nodes.
     ///
     /// # Errors
     ///
@@ -122,7 +122,7 @@ impl<N, E, Ix: IndexType> DiGraph<N, E, Ix> {
         self.edges.reserve(additional)
     }
 
-    /// Reserves the least capacity for `additional` more edges.
+    /// Reserves the minimum capacity for `additional` more edges.
     ///
     /// # Errors
     ///

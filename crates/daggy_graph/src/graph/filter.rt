@@ -166,9 +166,9 @@ impl<N, E, Ix: IndexType> DiGraph<N, E, Ix> {
     /// each node in ascending index order, and then `g` with each edge whose endpoints were both
     /// kept.
     ///
-    /// The nodes that are kept get new indices from 0 on, in their old order. The edges that are
-    /// kept are added in ascending index order, so each list is in descending index order. If
-    /// nothing is left out, each node and edge keeps its index.
+    /// The nodes that are kept are renumbered from 0, in their old order. The edges that are kept
+    /// are added in ascending index order, so each list is in descending index order. If nothing is
+    /// left out, each node and edge keeps its index.
     ///
     /// # Requires
     ///

@@ -75,8 +75,8 @@ impl<N, E, Ix: IndexType> DiGraph<N, E, Ix> {
     ///
     /// # Requires
     ///
-    /// - `makes_graph`: The index type has an index for each slot, and both ends of each edge are
-    ///   nodes: slots that are not `None`.
+    /// - `makes_graph`: The index type has an index for each slot, and both endpoints of each edge
+    ///   are nodes: slots that are not `None`.
     /// - `full`: No slot is `None`.
     ///
     /// # Errors

@@ -55,9 +55,9 @@ impl<N, E, Ix: IndexType> DiGraph<N, E, Ix> {
 
     /// Removes a node with its edges and returns its weight, if the node exists.
     ///
-    /// First the edges that leave it are removed, each time the first one of the list, and then the
-    /// edges that enter it. Each removal moves the last edge into the freed index. Finally the node
-    /// with the last index is moved into the freed index.
+    /// First the edges that leave it are removed, and then the edges that enter it, in the order of
+    /// each list. Each removal moves the last edge into the freed index. Finally the node with the
+    /// last index is moved into the freed index.
     ///
     /// # Complexity
     ///

@@ -1,4 +1,4 @@
-//! The edges of a document.
+//! Reading the member `edges` of a document.
 ghost use Rattle.std.specs.Prelude.{◌≡◌, ◌⊎◌, ◌≤◌, ◌↔◌, IsTrue, IsSome, Ok, Err, map, length};
 ghost use Rattle.std.specs.Prelude.{vec_len, IfOk, IfErr};
 ghost use Rattle.std.specs.Option.{option_map};

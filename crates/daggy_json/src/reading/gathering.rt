@@ -1,4 +1,4 @@
-//! The slots and the orders of a document, before a dag is made of them.
+//! The slots and the orders of a document, before a dag is made from them.
 ghost use Rattle.std.specs.Prelude.{◌≡◌, ◌≤◌, ◌⊎◌, [], IfSome, Result, Ok, Err, map, length};
 ghost use Rattle.std.specs.Prelude.{vec_len, IfOk, IfErr};
 ghost use Rattle.std.specs.Option.{option_map};
@@ -65,9 +65,9 @@ fn read_orders<N, E, Ix: IndexType>(
 /// The slots of a valid document, and its orders if it has any. Not yet checked for cycles.
 #[derive(Drop)]
 pub struct Gathered<N, E, Ix> {
-    /// The weight in each slot of a node.
+    /// The weight in each node slot.
     pub nodes: Vec<Option<N>>,
-    /// The ends and the weight in each slot of an edge.
+    /// The endpoints and the weight in each edge slot.
     pub edges: Vec<Slot<E, Ix>>,
     /// For each existing node, the edges that leave it and the edges that enter it, in order.
     pub orders: Option<Vec<Row<Ix>>>,

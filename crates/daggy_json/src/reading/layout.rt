@@ -1,4 +1,4 @@
-//! The holes of a document, and the numbers of its slots.
+//! The holes of a document, and how many slots it has.
 ghost use Rattle.std.specs.Prelude.{◌≡◌, ◌+◌, ◌<◌, ◌≤◌, ◌^◌, ◌↔◌, IsTrue, Some, None, length, OnOk, IfErr, MatchOption};
 ghost use Rattle.daggy_base.specs.declared.kind.Kind.TheVariants.{Stable};
 ghost use Rattle.daggy_json.specs.Reading.{Ascend, AreHoles, IsLaidOut};

@@ -1,4 +1,4 @@
-//! The orders of a document.
+//! Reading the member `orders` of a document.
 ghost use Rattle.std.specs.Prelude.{◌≡◌, ◌≤◌, map, IfOk};
 ghost use Rattle.std.specs.Option.{option_map};
 ghost use Rattle.serde_json.specs.View.{view};

@@ -1,4 +1,4 @@
-//! The parts of a document.
+//! Reading the members of a document.
 ghost use Rattle.std.specs.Prelude.{◌≡◌, ◌⊎◌, Some, None, map, codes, IfOk, IfErr};
 ghost use Rattle.std.specs.Option.{option_map};
 ghost use Rattle.serde_json.specs.View.{view};

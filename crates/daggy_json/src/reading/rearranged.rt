@@ -10,7 +10,7 @@ use crate::reading::orders::Row;
 use daggy_base::index::{Direction, EdgeIndex, IndexType, NodeIndex};
 use std::alloc::{AllocError, Global};
 
-/// A slot of an edge: its ends and its weight, if it is not vacant.
+/// An edge slot: the edge's endpoints and weight, or `None` if the slot is vacant.
 pub type Slot<E, Ix> = Option<(NodeIndex<Ix>, NodeIndex<Ix>, E)>;
 
 // Whether the slot holds an edge whose endpoint in direction `dir` is this node.

@@ -1,4 +1,4 @@
-//! The nodes of a document.
+//! Reading the member `nodes` of a document.
 ghost use Rattle.std.specs.Prelude.{◌≡◌, ◌+◌, ◌^◌, ◌<◌, ◌⊎◌, Ok, Err, map, length, vec_len, IfOk};
 ghost use Rattle.std.specs.Prelude.{IfErr};
 ghost use Rattle.serde_json.specs.View.{view};

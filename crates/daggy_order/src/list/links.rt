@@ -15,7 +15,7 @@ use daggy_base::reserved::reserve;
 use std::alloc::{AllocError, Global};
 use std::marker::Model;
 
-/// What is stored of a node: the nodes before and after it, and its label, which is 0 if the node
+/// What is stored for a node: the nodes before and after it, and its label, which is 0 if the node
 /// is not in the list.
 #[derive(Clone, Copy, Drop)]
 pub struct Item<Ix: IndexType> {
@@ -223,7 +223,7 @@ impl<Ix: IndexType> Links<Ix> {
         }
     }
 
-    /// How many nodes it holds.
+    /// How many nodes it contains.
     #[inline]
     pub fn len(&self) -> usize
         ensures value { result ≡ length self.now.nodes }
@@ -234,7 +234,7 @@ impl<Ix: IndexType> Links<Ix> {
         self.count
     }
 
-    /// Nodes with an index below this can be put in without growing.
+    /// Nodes with an index below this can be added without growing.
     #[inline]
     pub fn index_bound(&self) -> usize
         ensures value { result ≡ length self.now.labels }
@@ -314,7 +314,7 @@ impl<Ix: IndexType> Links<Ix> {
         grow(&mut self.items, n)
     }
 
-    /// The number of indices for which there is memory.
+    /// How many indices fit without another allocation.
     #[inline]
     pub fn capacity(&self) -> usize
         ensures { result ≡ self.now.capacity }
@@ -332,7 +332,7 @@ impl<Ix: IndexType> Links<Ix> {
         reserve(&mut self.items, bound)
     }
 
-    /// Makes room for all nodes with an index below `bound`, within the capacity.
+    /// Initialises memory for all nodes with an index below `bound`, without allocating.
     pub fn use_memory(&mut self, bound: usize)
         requires { bound ≤ self.old.capacity }
         ensures long { bound ≤ length self.new.labels }
@@ -409,8 +409,8 @@ impl<Ix: IndexType> Links<Ix> {
         }
     }
 
-    /// Puts the `count` nodes last that follow the last node `n` by their indices, and labels them in
-    /// steps of `gap` above `low`.
+    /// Appends the `count` nodes whose indices follow the index of the last node, `n`, with labels
+    /// that ascend from `low` in steps of `gap`.
     pub fn extend_run(&mut self, n: usize, count: usize, low: u64, gap: u64)
         requires ends { EndsAtGreatest self.old.nodes n }
         requires real { n + count < Ix.greatest }
@@ -436,7 +436,7 @@ impl<Ix: IndexType> Links<Ix> {
         self.count += count;
     }
 
-    /// Takes a node out. Its label stays.
+    /// Removes a node. Its label is kept.
     #[inline]
     pub fn remove(&mut self, n: Link<Ix>)
         requires { Contains self.old.nodes n }
@@ -457,7 +457,7 @@ impl<Ix: IndexType> Links<Ix> {
         self.count -= 1;
     }
 
-    /// Renames a node to `m`, in its place. Labels stay.
+    /// Replaces the node `n` with `m`, at the same position. No label changes.
     #[inline]
     pub fn rename(&mut self, n: Link<Ix>, m: Link<Ix>)
         requires held { Contains self.old.nodes n }
@@ -481,7 +481,7 @@ impl<Ix: IndexType> Links<Ix> {
         join(&mut self.items, &mut self.first, &mut self.last, m, next);
     }
 
-    /// Takes all nodes out, and keeps the capacity.
+    /// Removes all nodes, and keeps the capacity.
     #[inline]
     pub fn clear(&mut self)
         ensures nodes { self.new.nodes ≡ [] }

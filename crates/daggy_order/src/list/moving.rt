@@ -56,7 +56,7 @@ fn put_all_after<Ix: IndexType>(
 }
 
 impl<Ix: IndexType> LabeledList<Ix> {
-    /// Moves the first `count` nodes of a worklist, which come before `a`, to right after it, in
+    /// Moves the first `count` nodes of a worklist, which come before `a`, to right after `a`, in
     /// their old order. Sorts that part of the worklist. A few neighbors may be relabelled.
     pub fn move_after(&mut self, a: Link<Ix>, work: &mut Worklist<Ix>, count: usize)
         requires within { count ≤ length work.old.nodes }

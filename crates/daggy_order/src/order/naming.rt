@@ -1,4 +1,4 @@
-//! Renaming all nodes at once.
+//! Changing the indices of all nodes at once.
 ghost use Rattle.std.specs.Prelude.{◌≡◌, ℕ, ◌<◌, ◌≤◌, Some, Contains, length};
 ghost use Rattle.std.specs.List.{filter_map};
 ghost use Rattle.daggy_base.specs.Graph.{slot};
@@ -8,15 +8,15 @@ use daggy_base::index::{IndexType, NodeIndex};
 use daggy_base::link::Link;
 
 impl<Ix: IndexType> Order<Ix> {
-    /// Gives each node the new index that `names` has for it, and removes the nodes for which it
-    /// has `None`. The others stay in the same order.
+    /// Replaces each node with its new index in `names`, and removes the nodes whose entry there is
+    /// `None`. The order of the others does not change.
     ///
     /// # Requires
     ///
-    /// - `few`: `names` has no more entries than the index type has indices.
+    /// - `few`: `names` has at most as many entries as the index type has indices.
     /// - `covered`: `names` has an entry for each node of the order.
-    /// - `lower`: No new name is greater than the old one.
-    /// - `distinct`: No two nodes get the same name.
+    /// - `lower`: No new index is greater than the old one.
+    /// - `distinct`: No two nodes get the same new index.
     ///
     /// # Complexity
     ///

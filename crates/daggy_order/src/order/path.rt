@@ -1,4 +1,4 @@
-//! A shortest path from one node to another, by an order of the nodes.
+//! A shortest path from one node to another, found with a topological order.
 ghost use Rattle.std.specs.Prelude.{◌≡◌, ℕ, ◌+◌, ◌<◌, ◌≤◌, ◌↔◌, List, None, Ok, true};
 ghost use Rattle.std.specs.Prelude.{length, map, slice_index, Contains, IsTrue, IfOk, IfSome};
 ghost use Rattle.daggy_base.specs.Graph.{HasNode, node_bound};

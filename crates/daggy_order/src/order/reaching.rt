@@ -1,4 +1,4 @@
-//! Whether a path leads from one node to another, by an order of the nodes.
+//! Whether a path leads from one node to another, decided with a topological order.
 ghost use Rattle.std.specs.Prelude.{◌≡◌, ◌+◌, ◌≤◌, ◌↔◌, IsTrue};
 ghost use Rattle.daggy_base.specs.Graph.{node_bound};
 ghost use Rattle.daggy_base.specs.Path.{Reaches};

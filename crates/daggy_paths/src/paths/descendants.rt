@@ -1,4 +1,4 @@
-//! What depends on some nodes of a borrowed graph, and what they depend on.
+//! The descendants and the ancestors of given nodes in a borrowed graph.
 ghost use Rattle.std.specs.Prelude.{◌≡◌, ℕ, ◌+◌, ◌≤◌, ◌↔◌, map, IfOk};
 ghost use Rattle.daggy_base.specs.Graph.{edge_count as edge_count_of};
 ghost use Rattle.daggy_base.specs.Ordered.{edges_from};
@@ -26,7 +26,7 @@ impl<'d, Ix: IndexType, S: ReadStore<Ix>> Paths<'d, Ix, S> {
     ///
     /// # Complexity
     ///
-    /// O(k log k + edges) for k nodes found and the edges that leave them.
+    /// O(k log k + m) for k nodes found and m edges that leave them.
     ///
     /// # Examples
     ///
@@ -66,7 +66,7 @@ impl<'d, Ix: IndexType, S: ReadStore<Ix>> Paths<'d, Ix, S> {
     ///
     /// # Complexity
     ///
-    /// O(k log k + edges) for k nodes found and the edges that leave them or `nodes`.
+    /// O(k log k + m) for k nodes found and m edges that leave them or `nodes`.
     pub fn descendants(&mut self, nodes: &[NodeIndex<Ix>]) -> Result<Vec<NodeIndex<Ix>>, AllocError>
         ensures found { IfOk result (λ found. IsOrderOfPart self.old.graph
             (IsDescendantOfAny self.old.graph (map Ix.number nodes.now)) (map Ix.number found.items)) }
@@ -98,7 +98,7 @@ impl<'d, Ix: IndexType, S: ReadStore<Ix>> Paths<'d, Ix, S> {
     ///
     /// # Complexity
     ///
-    /// O(k log k + edges) for k nodes found and the edges that enter them or `nodes`.
+    /// O(k log k + m) for k nodes found and m edges that enter them or `nodes`.
     pub fn ancestors(&mut self, nodes: &[NodeIndex<Ix>]) -> Result<Vec<NodeIndex<Ix>>, AllocError>
         ensures found { IfOk result (λ found. IsOrderOfPart self.old.graph
             (IsAncestorOfAny self.old.graph (map Ix.number nodes.now)) (map Ix.number found.items)) }

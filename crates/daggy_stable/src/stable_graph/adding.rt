@@ -92,7 +92,7 @@ impl<N: Drop, E: Drop, Ix: IndexType> StableDiGraph<N, E, Ix> {
     }
 
     /// Adds an edge from `a` to `b`, in the slot vacated last. If no slot is vacant, its index is
-    /// the previous edge count. It is first in the lists of `a` and of `b`.
+    /// the previous edge count. It is first in the out list of `a` and in the in list of `b`.
     ///
     /// # Requires
     ///

@@ -1,4 +1,4 @@
-//! Making a graph of slots that are filled already.
+//! Making a graph from slots that are already filled.
 ghost use Rattle.std.specs.Prelude.{◌≡◌};
 ghost use Rattle.daggy_base.specs.Graph.{Graph};
 ghost use Rattle.daggy_stable.specs.Held.{HoldsGraph};
@@ -10,7 +10,7 @@ use daggy_base::looks::Looks;
 use daggy_cells::cell::{Edge, Node};
 
 impl<N, E, Ix: IndexType> StableDiGraph<N, E, Ix> {
-    /// Makes a graph of these slots, none of which is vacant.
+    /// Makes a graph from these slots, none of which is vacant.
     ///
     /// # Requires
     ///

@@ -70,8 +70,8 @@ impl<N, E, Ix: IndexType> StableDiGraph<N, E, Ix> {
     ///
     /// # Requires
     ///
-    /// - The index type has an index for each slot, and both ends of each edge are nodes: slots
-    ///   that are not `None`.
+    /// - The index type has an index for each slot, and both endpoints of each edge are nodes:
+    ///   slots that are not `None`.
     ///
     /// # Errors
     ///

@@ -16,7 +16,7 @@ use std::fmt;
 use std::iter::FusedIterator;
 use std::marker::Model;
 
-/// The edges of one list of a node, in the order of the list. Returned by
+/// The edges that leave a node, or those that enter it, in the order of its list. Returned by
 /// [`edges`](crate::stable_graph::StableDiGraph::edges) and
 /// [`edges_directed`](crate::stable_graph::StableDiGraph::edges_directed).
 #[derive(Drop)]

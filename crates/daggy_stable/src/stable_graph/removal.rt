@@ -59,8 +59,8 @@ impl<N, E, Ix: IndexType> StableDiGraph<N, E, Ix> {
     /// Removes a node with its edges and returns its weight, if the node exists. No other index
     /// changes.
     ///
-    /// First the edges that leave it are removed, each time the first one of the list, and then the
-    /// edges that enter it.
+    /// First the edges that leave it are removed, and then the edges that enter it, in the order of
+    /// each list.
     ///
     /// # Complexity
     ///

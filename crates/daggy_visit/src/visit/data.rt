@@ -1,4 +1,4 @@
-//! What a graph consists of, and its weights.
+//! The types of a graph's nodes, edges and weights.
 ghost use Rattle.std.specs.Prelude.{◌≡◌, ℕ, Bool, option_copied};
 ghost use Rattle.std.specs.Borrow.{sem, LendsIf};
 ghost use Rattle.std.specs.Option.{option_copied_mut};
@@ -67,11 +67,11 @@ pub trait NodeCount: Data {
         ensures { result ≡ node_count_of (Self.graph self.now) };
 }
 
-/// The type of graphs whose edges have a direction. It has no values.
+/// A marker type for graphs with directed edges. It has no values.
 #[derive(Clone, Copy)]
 pub enum Directed {}
 
-/// A graph that says whether its edges have a direction.
+/// A graph type that states whether its edges are directed.
 ///
 /// # Examples
 ///
@@ -84,13 +84,13 @@ pub enum Directed {}
 /// assert!(rt; has_directions(&dag));
 /// ```
 pub trait GraphProp: GraphBase {
-    /// [`Directed`], if edges have a direction.
+    /// [`Directed`] if the edges are directed.
     type EdgeType;
 
     // Whether edges have a direction.
     ghost directed: { Bool };
 
-    /// Whether edges have a direction.
+    /// Whether the edges are directed.
     fn is_directed(&self) -> bool
         ensures { result ≡ directed };
 }

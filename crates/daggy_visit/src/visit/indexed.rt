@@ -1,4 +1,4 @@
-//! Nodes by number.
+//! Graphs whose nodes have numbers.
 ghost use Rattle.std.specs.Prelude.{◌≡◌, ℕ, ◌≤◌};
 ghost use Rattle.daggy_base.specs.Graph.{node_bound as node_bound_of};
 
@@ -46,7 +46,7 @@ pub trait NodeIndexable: Data {
         ensures { Self.node_number result ≡ x };
 }
 
-/// A graph whose nodes are numbered from 0 to their count.
+/// A graph whose nodes are numbered from 0 without gaps.
 ///
 /// # Examples
 ///

@@ -1,4 +1,4 @@
-//! Sets of nodes and matrices of pairs that fit a graph.
+//! Sets of visited nodes and adjacency matrices, as graphs create them.
 ghost use Rattle.std.specs.Prelude.{◌≡◌, ℕ, ◌<◌, ◌↔◌, ◌⊎◌, List, Bool, length, IsTrue, IsFalse};
 ghost use Rattle.std.specs.Prelude.{IfOk, OnOk, OnErr};
 ghost use Rattle.daggy_base.specs.Graph.{node_bound as node_bound_of};
@@ -45,7 +45,7 @@ pub trait VisitMap<N> {
         ensures { IsTrue result ↔ IsVisited (visited self.now) (number a.now) };
 }
 
-/// A graph that can make sets of its nodes, for searches that mark the nodes they have visited.
+/// A graph that can create sets of its nodes, for searches that mark the nodes they have visited.
 ///
 /// # Examples
 ///
@@ -77,7 +77,7 @@ pub trait Visitable: Data {
             length (Self.Map.visited map) ≡ node_bound_of (Self.graph self.now)) }
         ensures empty { IfOk result (λ map. (n : ℕ) → ¬ IsVisited (Self.Map.visited map) n) };
 
-    /// Empties a set and makes it fit the nodes of the graph.
+    /// Empties a set, and resizes it to the nodes of the graph.
     ///
     /// # Errors
     ///
@@ -96,7 +96,7 @@ pub trait Visitable: Data {
     ghost map_number: { (n : Self.NodeId) → Self.Map.number n ≡ Self.node_number n };
 }
 
-/// A graph that can make its adjacency matrix.
+/// A graph that can create its adjacency matrix.
 ///
 /// # Examples
 ///

@@ -1,4 +1,5 @@
-//! `peek`, in a module apart from the type, because its clause names the row of the type.
+//! `peek`, in a separate module, because its clause names `the_row`, which is generated from the
+//! type.
 ghost use Rattle.std.specs.Prelude.{◌≡◌, ⊤, option_copied};
 ghost use Rattle.std.specs.Borrow.{sem, follows_so};
 ghost use mathlib.Core.Option.{none};
@@ -13,19 +14,19 @@ impl<G, W: Walker<G>> Ahead<G, W, W::Item>
 where
     W::Item: Drop,
 {
-    /// The item of the next step. The walk that it wraps takes that step now, and the item is held
-    /// until the next step.
+    /// Returns the item of the next step. The wrapped walk takes that step now, and the item is
+    /// kept until the next step.
     ///
-    /// If the walk yields nothing, nothing is held, and the next step tries again.
+    /// If the walk yields nothing, no item is kept, and the next step tries again.
     ///
     /// # Requires
     ///
-    /// - The walker may take a step over `graph`: always if it calls no closure, and otherwise if
-    ///   its closure may be called with the next item.
+    /// - The walker may take a step over `graph`: if it calls a closure, the closure may be called
+    ///   with the next item.
     ///
     /// # Complexity
     ///
-    /// One step of the walk, unless an item is held.
+    /// One step of the walk, unless an item is kept.
     #[inline]
     pub fn peek(&mut self, graph: &G) -> Option<&W::Item>
         requires { W.can_walk (peekable_walker self.old) graph.now }

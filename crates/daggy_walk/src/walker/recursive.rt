@@ -1,4 +1,4 @@
-//! Walks along edges that a function chooses.
+//! Walks in which a closure chooses each edge.
 ghost use Rattle.std.specs.Prelude.{◌≡◌};
 ghost use Rattle.daggy_walk.specs.Leading.{LeadsOn, RecursiveStep};
 ghost use Rattle.daggy_walk.specs.Parts.{recursive_node, recursive_function};
@@ -65,7 +65,7 @@ where
     ///
     /// # Requires
     ///
-    /// - The closure may be called with every node that the walk can come to.
+    /// - The closure may be called with every node that the walk can reach.
     ///
     /// # Complexity
     ///

@@ -5,7 +5,7 @@ ghost use Rattle.daggy_walk.specs.Parts.{skip_walker, skip_count};
 use crate::walker::{FiniteWalker, FusedWalker, Walker};
 use std::marker::PhantomData;
 
-/// A walk without its first items, which are skipped in the first step.
+/// A walk without its first items, which are all skipped in the first step.
 ///
 /// So the first step takes O(skipped steps), even if the walk ends earlier.
 ///

@@ -1,4 +1,4 @@
-//! A walk from the first step on that fails a test.
+//! A walk that begins with the first item that fails a test.
 ghost use Rattle.std.specs.Prelude.{◌≡◌, Some};
 ghost use Rattle.daggy_walk.specs.Parts.{skip_while_walker, skip_while_predicate};
 

@@ -7,8 +7,8 @@ use std::marker::PhantomData;
 
 /// The items of a walk before the first for which a predicate returns false.
 ///
-/// The walker is dropped then. If the walker merely yields nothing, it is kept, and the walk may
-/// continue.
+/// At that item the walker is dropped. If the walker merely yields nothing, it is kept, and the
+/// walk may continue.
 ///
 /// # Examples
 ///

@@ -25,8 +25,8 @@ impl<N: Clone + Drop, E: Clone + Drop, Ix: IndexType> Clone
 }
 
 impl<N: Drop, E: Drop, Ix: IndexType> Acyclic<N, E, Ix, DiGraph<N, E, Ix>> {
-    /// An empty dag with capacity for `nodes` nodes and `edges` edges, including the memory of
-    /// their order and of searches.
+    /// An empty dag with capacity for `nodes` nodes and `edges` edges, including the memory for
+    /// their order and for searches.
     ///
     /// # Errors
     ///
@@ -96,8 +96,8 @@ impl<N: Drop, E: Drop, Ix: IndexType> Acyclic<N, E, Ix, DiGraph<N, E, Ix>> {
         self.clone()
     }
 
-    /// Reserves capacity for at least `additional` more nodes, including the memory of their order
-    /// and of searches.
+    /// Reserves capacity for at least `additional` more nodes, including the memory for their order
+    /// and for searches.
     ///
     /// # Errors
     ///
@@ -129,8 +129,8 @@ impl<N: Drop, E: Drop, Ix: IndexType> Acyclic<N, E, Ix, DiGraph<N, E, Ix>> {
         self.guarded.scratch.reserve(nodes, 0)
     }
 
-    /// Reserves the least capacity for `additional` more nodes, including the memory of their order
-    /// and of searches.
+    /// Reserves the minimum capacity for `additional` more nodes, including the memory for their
+    /// order and for searches.
     ///
     /// # Errors
     ///
@@ -182,7 +182,7 @@ impl<N: Drop, E: Drop, Ix: IndexType> Acyclic<N, E, Ix, DiGraph<N, E, Ix>> {
         self.guarded.store.reserve_edges(additional)
     }
 
-    /// Reserves the least capacity for `additional` more edges.
+    /// Reserves the minimum capacity for `additional` more edges.
     ///
     /// # Errors
     ///
@@ -199,7 +199,7 @@ impl<N: Drop, E: Drop, Ix: IndexType> Acyclic<N, E, Ix, DiGraph<N, E, Ix>> {
         self.guarded.store.reserve_exact_edges(additional)
     }
 
-    /// Shrinks the capacity of nodes and edges to fit. The memory for searches stays.
+    /// Shrinks the capacity of nodes and edges to fit. The memory for searches is kept.
     ///
     /// # Errors
     ///
@@ -215,7 +215,7 @@ impl<N: Drop, E: Drop, Ix: IndexType> Acyclic<N, E, Ix, DiGraph<N, E, Ix>> {
         self.guarded.store.shrink_to_fit()
     }
 
-    /// Shrinks the capacity of nodes to fit. The memory for searches stays.
+    /// Shrinks the capacity of nodes to fit. The memory for searches is kept.
     ///
     /// # Errors
     ///

@@ -59,8 +59,8 @@ impl<N: Drop, E: Drop, Ix: IndexType> Acyclic<N, E, Ix, DiGraph<N, E, Ix>> {
     /// A dag of the nodes and edges for which the closures return a weight: `f` is called with each
     /// node in ascending index order, and then `g` with each edge whose endpoints were both kept.
     ///
-    /// The nodes that are kept get new indices from 0 on, in their old order. The edges that are
-    /// kept are added again in ascending index order, so each list is in descending index order. If
+    /// The nodes that are kept are renumbered from 0, in their old order. The edges that are kept
+    /// are added again in ascending index order, so each list is in descending index order. If
     /// nothing is left out, each node and edge keeps its index.
     ///
     /// # Requires

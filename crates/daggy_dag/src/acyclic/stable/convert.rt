@@ -1,4 +1,4 @@
-//! A stable dag made of a compact one.
+//! A stable dag made from a compact one.
 ghost use Rattle.std.specs.Prelude.{◌≡◌, ◌≤◌, IfOk, IfErr};
 ghost use Rattle.daggy_base.specs.Graph.{IsCompact};
 ghost use Rattle.daggy_base.specs.Path.{IsAcyclic};

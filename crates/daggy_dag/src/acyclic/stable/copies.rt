@@ -25,8 +25,8 @@ impl<N: Clone + Drop, E: Clone + Drop, Ix: IndexType> Clone
 }
 
 impl<N: Drop, E: Drop, Ix: IndexType> Acyclic<N, E, Ix, StableDiGraph<N, E, Ix>> {
-    /// An empty dag with capacity for `nodes` nodes and `edges` edges, including the memory of
-    /// their order and of searches.
+    /// An empty dag with capacity for `nodes` nodes and `edges` edges, including the memory for
+    /// their order and for searches.
     ///
     /// # Errors
     ///
