@@ -1,5 +1,5 @@
 #!/usr/bin/env bash
-# The README has the program that `.ci/use` makes, with what it prints; each block of code in docs/USING.md and in the pages
+# The README has parts of the program that `.ci/use` makes, and what it prints; each block of code in docs/USING.md and in the pages
 # of the examples stands in a file that the gate checks or is an example that examples.sh runs; and each run in the README,
 # in docs/COMMANDS.md and in those pages prints what stands there.
 set -u
@@ -41,8 +41,8 @@ made = importlib.util.module_from_spec(importlib.util.spec_from_loader("examples
 loader.exec_module(made)
 
 readme = text_of("README.md")
-if blocks(readme, "rust") != [text_of(f"{EXAMPLE}/src/main.rt")] or blocks(readme, "text") != [text_of(f"{EXAMPLE}/stdout")]:
-    complain(f"the README does not have the program of {EXAMPLE} and what it prints")
+if blocks(readme, "text") != [text_of(f"{EXAMPLE}/stdout")]:
+    complain(f"the README does not have what the program of {EXAMPLE} prints")
 
 
 # Code without doc comments, attributes, blank lines and the indentation that all of it has. A line `// ..` parts a block.
@@ -67,6 +67,14 @@ def stand_in(parts, lines):
     return True
 
 
+def parts_of(block):
+    parts = [code_of(part) for part in re.split(r"^ *// \.\.$", block, flags=re.M)]
+    return [part for part in parts if part]
+
+
+example = code_of(text_of(f"{EXAMPLE}/src/main.rt"))
+if [stand_in(parts_of(block), example) for block in blocks(readme, "rust")] != [True]:
+    complain(f"the README does not have parts of the program of {EXAMPLE}")
 gated = [line.split(":")[0].split()[0] for line in text_of("crates.txt").split("\n") if ":" in line.split("#")[0]]
 files = [path for name in gated for path in glob.glob(f"crates/{name}/src/**/*.rt", recursive=True)]
 sources = {path: code_of(text_of(path)) for path in files}
@@ -78,8 +86,7 @@ if blocks(page, "text") != [text_of(f"{EXAMPLE}/stdout")]:
 pages = {"docs/SHEET.md": "example_sheet", "docs/PACKAGES.md": "example_packages", "docs/BUILD.md": "example_build"}
 using = [(path, block) for path in [*made.RECIPE_PAGES, *pages] for block in blocks(made.RECIPE.sub("", text_of(path)), "rust")]
 for path, block in using:
-    parts = [code_of(part) for part in re.split(r"^ *// \.\.$", block, flags=re.M)]
-    if not any(stand_in([part for part in parts if part], lines) for lines in sources.values()):
+    if not any(stand_in(parts_of(block), lines) for lines in sources.values()):
         complain(f"{path}: no file has this:\n{block}")
 proofs = [text_of(path) for name in gated for path in glob.glob(f"crates/{name}/proofs/**/*.antt", recursive=True)]
 for block in blocks(page, "antt"):

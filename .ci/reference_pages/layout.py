@@ -2,17 +2,17 @@
 
 # The pages: file, title, the module whose `//!` comment opens it, and words after that.
 PAGES = [
-    ("dag", "Dags", "", "`Dag` and `StableDag` are the two kinds of `Acyclic`. What is said here holds for both, unless an "
-     "entry is marked with one of them."),
-    ("paths", "Paths, order and reduction", "", "Questions about what lies beyond a node's neighbors, the order that a dag "
-     "maintains, and its reduction. All are methods of `Dag` and `StableDag`, unless marked; [`Paths`] asks the same of a dag "
-     "that is only borrowed."),
+    ("dag", "Dags", "", "`Dag` and `StableDag` are the two kinds of `Acyclic`. An entry applies to both, unless it is "
+     "marked with one of them."),
+    ("paths", "Paths, order and reduction", "", "Queries beyond the neighbors of a node, the order that a dag maintains, and its "
+     "reduction. All are methods of `Dag` and `StableDag`, unless marked; [`Paths`] answers the same queries for a borrowed "
+     "dag."),
     ("walkers", "Walkers", "walker", ""),
     ("traversal", "Traversals", "traversal", ""),
     ("schedule", "Ready queues and schedules", "schedule", ""),
     ("named", "Dags by names", "named", ""),
     ("computed", "Computed values", "computed", ""),
-    ("operators", "Dags made of dags", "operators", ""),
+    ("operators", "Dags made from dags", "operators", ""),
     ("run", "Commands and plans", "run", ""),
     ("json", "JSON documents", "json", ""),
     ("dot", "Pictures", "dot", ""),
@@ -20,11 +20,12 @@ PAGES = [
     ("search", "Searches of any graph", "search", ""),
     ("components", "Components and cycles", "components", ""),
     ("stores", "Stores", "", "The graphs that dags are built on: `daggy::graph` is compact, `daggy::stable_graph` has slots. "
-     "They may hold cycles. What both have stands once."),
+     "They may have cycles. Methods that both have are listed once."),
     ("visit", "Visit traits", "visit", ""),
     ("indices", "Indices", "index", ""),
-    ("errors", "Errors", "", "Errors of changes hold the weights that the call took, so that nothing is lost. The exceptions "
-     "are `SlotsError` and `FromGraphError`."),
+    ("errors", "Errors", "", "The error of a method that changes a dag holds the weights that the call took. Exceptions: "
+     "`extend_with_edges`, `from_edges` and `from_elements` return only the weight of the item that failed, and `from_slots` "
+     "returns none."),
 ]
 
 # The methods of a dag by page and group, in order. One that is named nowhere is a fault.
@@ -58,7 +59,8 @@ FIRST = {
     "schedule": ["Ready", "ReadyByKey", "topological_order_by", "Schedule", "schedule_on", "Assignment"],
     "named": ["Named"],
     "computed": ["Computed", "ComputedDag", "StableComputedDag", "Inputs", "Cell", "RefreshError"],
-    "operators": ["subgraph", "reverse", "have_same_reachability"],
+    "operators": ["subgraph", "reverse", "transitive_closure_dag", "ClosureError", "lowest_common_ancestors", "all_simple_paths",
+                  "SimplePaths", "have_same_reachability"],
     "run": ["run", "perform", "Command", "Reply", "Back", "plan", "Plan", "GuardedDag"],
     "json": ["dag_to_json", "stable_to_json", "write_json", "write_short_json", "dag_from_json", "stable_from_json"],
     "formats": ["mermaid", "graphml", "node_table", "edge_table", "Document", "Format", "Escape"],

@@ -11,15 +11,16 @@ from words import gloss_of
 
 MADE_BY = "<!-- Made by .ci/reference from the sources; do not edit. -->"
 HOW_TO_READ = [
-    "*Requires* lists what a call asks of its caller, clause by clause. The names are those in the checker's messages: "
-    "`add_edge-requires-clause-parent` is the clause `parent` of `add_edge`, and `add_node-requires` one without a name. The "
-    "checker proves each clause at each call; a call without this list may always be made.",
-    "*Promises* names the clauses of the contract. Unfolded, it shows the contract itself; the files that define its words "
-    "are listed at the end of the page.",
-    "*Only `StableDag`* and the like name the kind that has the item; in a signature, `// Dag` and `// StableDag` mark two "
-    "forms.",
-    "`Ix` is the type of indices, `u32` if it is left out. An example is the body of a function that has a runtime `rt` and "
-    "returns a `Result`.",
+    "*Requires* lists the preconditions of a method or function, clause by clause. The names are those in the checker's "
+    "messages: `add_edge-requires-clause-parent` is the clause `parent` of `add_edge`, and `add_node-requires` is a clause "
+    "without a name. The checker proves each clause at each call. Without this list there is no precondition.",
+    "*Promises* names the clauses of the contract. Unfolded, it shows the contract itself; the files that define the names "
+    "in it are listed at the end of the page.",
+    "A mark such as *Only `StableDag`* names the only kind that has the item; in a signature, `// Dag` and `// StableDag` "
+    "mark the forms for the two kinds.",
+    "`Ix` is the type of the indices. If the signature of a type or trait has `= DefaultIx`, `Ix` can be left out where the "
+    "type is written, and is then `u32`; otherwise it has to be written. An example is the body of a function that has a "
+    "runtime `rt` and returns a `Result`.",
 ]
 
 
