@@ -1,13 +1,13 @@
 -- Lists by index that have 0 where there is no node, or no edge.
-use Rattle.std.proofs.Common.{◌≡◌, ℕ, inl, inr, Option, Some, None, is_some, List, get_or, set, replicate, refl, sym, ap, subst}
-use Rattle.std.proofs.Common.{◌∙◌}
+use Rattle.std.proofs.Common.{◌≡◌, ℕ, ◌+◌, ◌≤◌, ◌⊎◌, inl, inr, Bool, true, false, Option, Some, None, is_some, List, get_or, set, replicate, refl, sym, ap, subst}
+use Rattle.std.proofs.Common.{◌∙◌, arith}
 use Rattle.std.specs.Option.{option_map}
-use Rattle.std.proofs.lemmas.Bool.{cases_eq}
+use Rattle.std.proofs.lemmas.Bool.{cases_eq, false≢true}
 use Rattle.std.proofs.lemmas.List.{get_or-set_other}
-use Rattle.daggy_base.specs.Graph.{Graph, Edge, HasNode, HasEdge, edge_at}
+use Rattle.daggy_base.specs.Graph.{Graph, Edge, HasNode, HasEdge, node_weight, edge_at}
 use Rattle.daggy_base.specs.Weights.{edge_weight}
 use Rattle.daggy_base.specs.WellFormed.{IsWellFormed}
-use Rattle.daggy_schedule.specs.Times.{IsZeroElsewhere}
+use Rattle.daggy_schedule.specs.Times.{AreDoneBy, IsZeroElsewhere}
 use Rattle.daggy_schedule.specs.Lags.{IsZeroWithoutEdge}
 use Rattle.daggy_schedule.specs.Passes.{AreDelayed}
 use Rattle.daggy_schedule.proofs.Starting.{all_zero}
@@ -52,4 +52,20 @@ module _ {N E : Type 0} (g : Graph N E) where
       elim (delayed.noted v) [
         | inl same ↦ same.0 ∙ before v none
         | inr put ↦ absurd (none (w.children put.0.0 _ put.0.2))
+      ]
+
+  node_or_not : (n : ℕ) → HasNode g n ⊎ (HasNode g n → ⊥)
+  node_or_not n = by_test (is_some (node_weight g n)) refl
+    where
+      by_test : (b : Bool) → is_some (node_weight g n) ≡ b → HasNode g n ⊎ (HasNode g n → ⊥)
+      by_test true is = inl is
+      by_test false is = inr (λ h. false≢true (sym is ∙ h))
+
+  -- what has 0 elsewhere ends by a time at each index, if it does at the nodes
+  pub ends_by : (d starts : List ℕ) {time : ℕ} → AreDoneBy g d (λ n. get_or starts n 0) time → IsZeroElsewhere g starts
+      → IsZeroElsewhere g d → (i : ℕ) → get_or starts i 0 + get_or d i 0 ≤ time
+  ends_by d starts by starts_none none i =
+      elim (node_or_not i) [
+        | inl here ↦ by i here
+        | inr gone ↦ omega (arith, starts_none i gone, none i gone)
       ]

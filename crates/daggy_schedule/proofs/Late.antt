@@ -89,7 +89,7 @@ module _ {N E : Type 0} {end : ℕ} {g : Graph N E} (w : IsWellFormed end g) {or
   not_before : Mem n before → ⊥
   not_before m = unique_cross before (n ∷ behind) once n m (inl refl)
 
-  not_behind : Mem n behind → ⊥
+  pub not_behind : Mem n behind → ⊥
   not_behind m = (unique_right before (n ∷ behind) once).0 m
 
   pub order_exists : HasNode g n
@@ -98,7 +98,7 @@ module _ {N E : Type 0} {end : ℕ} {g : Graph N E} (w : IsWellFormed end g) {or
       (ord.exact n).0 (mem_contains order n (subst P (sym split) (mem_mid before behind n)))
 
   -- the children of a node stand behind it
-  children_behind : (v : ℕ) → AreJoined g n v → Mem v behind
+  pub children_behind : (v : ℕ) → AreJoined g n v → Mem v behind
   children_behind v j =
       let M : List ℕ → Type 0 = λ z. Mem v z in
       let P : List ℕ → Type 0 = λ z. place z n < place z v in

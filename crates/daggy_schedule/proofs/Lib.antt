@@ -14,6 +14,8 @@ pub mod Delays
 pub mod Timing
 pub mod PathBack
 pub mod Late
+pub mod LongestPaths
+pub mod Float
 pub mod Whole
 pub mod NoLags
 pub mod Durations

@@ -1,8 +1,8 @@
 -- When the nodes of a graph start and finish, with a duration for each node and a lag for each edge: that long does the
 -- child wait after the parent has finished.
-use Rattle.std.specs.Prelude.{◌≡◌, ℕ, ◌+◌, ◌<◌, ◌≤◌, ◌^◌, ◌⊎◌, Some, List, [], ◌∷◌, slice_index}
+use Rattle.std.specs.Prelude.{◌≡◌, ℕ, ◌+◌, ◌<◌, ◌≤◌, ◌^◌, ◌⊎◌, Some, List, [], ◌∷◌, length, slice_index}
 use Rattle.std.specs.Borrow.{Bor}
-use Rattle.daggy_base.specs.Graph.{Graph, HasNode, HasEdge, edge_bound}
+use Rattle.daggy_base.specs.Graph.{Graph, HasNode, HasEdge, node_bound, edge_bound}
 use Rattle.daggy_base.specs.Weights.{edge_weight}
 use Rattle.daggy_base.specs.Path.{AreJoined, IsPath}
 use Rattle.daggy_schedule.specs.Times.{span, AreEarliestOf, AreLatestOf, IsMakespanOf, IsTracedBackBy}
@@ -72,3 +72,24 @@ module _ {N E : Type 0} (g : Graph N E) where
   -- parents.
   abbrev pub IsTracedBackWithLags : (finish : ℕ → ℕ) (lags nodes : List ℕ) → Type 0
   IsTracedBackWithLags finish lags nodes = IsTracedBackBy g (WaitsForWithLags finish lags) finish nodes
+
+module _ {N E : Type 0} (g : Graph N E) (durations lags : List ℕ) where
+  -- what a schedule of the graph says: when each node starts and finishes, how much later it can start, and the makespan
+  pub record IsScheduleOf (starts finishes slack : List ℕ) (makespan : ℕ) : Type 0 where
+    pub all_start : length starts ≡ node_bound g
+    pub all_finish : length finishes ≡ node_bound g
+    pub earliest : AreEarliestWithLags g durations lags (slice_index starts)
+    pub takes : (n : ℕ) → HasNode g n → slice_index finishes n ≡ slice_index starts n + slice_index durations n
+    pub latest : AreLatestWithLags g durations lags (λ n. slice_index starts n + slice_index slack n) makespan
+    pub ends : IsMakespanWithLags g durations lags (slice_index starts) makespan
+
+  -- with n so much later than its start, each child can still start at its start, and n has finished by the makespan
+  pub record DelaysNoOther (starts : List ℕ) (makespan n delay : ℕ) : Type 0 where
+    pub children : (v : ℕ) (edge : AreJoined g n v)
+        → slice_index starts n + delay + slice_index durations n + slice_index lags edge.0 ≤ slice_index starts v
+    pub met : slice_index starts n + delay + slice_index durations n ≤ makespan
+
+  -- the greatest delay of n with which nothing else is delayed
+  pub record IsFreeFloat (starts : List ℕ) (makespan n float : ℕ) : Type 0 where
+    pub free : DelaysNoOther starts makespan n float
+    pub most : (delay : ℕ) → DelaysNoOther starts makespan n delay → delay ≤ float

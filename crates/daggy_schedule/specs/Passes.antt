@@ -50,3 +50,15 @@ pub record IsLatestFinish {N E : Type 0} (g : Graph N E) (n : ℕ) (lags : List 
   pub most : finish ≤ makespan
   pub below : (v : ℕ) (edge : AreJoined g n v) → finish + slice_index lags edge.0 ≤ start v
   pub met : (finish ≡ makespan) ⊎ ((v : ℕ) × (edge : AreJoined g n v) × (finish + slice_index lags edge.0 ≡ start v))
+
+-- each node finishes after it starts and by the makespan, and for each edge, its lag has passed by the start of its child
+pub record AreInTime {N E : Type 0} (g : Graph N E) (lags starts finishes : List ℕ) (makespan : ℕ) : Type 0 where
+  pub begun : (n : ℕ) → HasNode g n → slice_index starts n ≤ slice_index finishes n
+  pub met : (n : ℕ) → HasNode g n → slice_index finishes n ≤ makespan
+  pub passed : (u v : ℕ) → HasNode g u → (edge : AreJoined g u v)
+      → slice_index finishes u + slice_index lags edge.0 ≤ slice_index starts v
+
+-- the greatest level of the children of n, or 0 if it has none
+pub record IsGreatestBelow {N E : Type 0} (g : Graph N E) (levels : List ℕ) (n greatest : ℕ) : Type 0 where
+  pub most : (v : ℕ) → AreJoined g n v → slice_index levels v ≤ greatest
+  pub met : (greatest ≡ 0) ⊎ ((v : ℕ) × AreJoined g n v × (slice_index levels v ≡ greatest))

@@ -30,6 +30,11 @@ abbrev pub span : (durations : List ℕ) → List ℕ → ℕ
 span durations [] = 0
 span durations (n ∷ ns) = slice_index durations n + span durations ns
 
+-- the greatest sum of the durations along a path that begins with n
+pub record IsLongestFrom {N E : Type 0} (g : Graph N E) (durations : List ℕ) (n time : ℕ) : Type 0 where
+  pub reached : (rest : List ℕ) × IsPath g (n ∷ rest) × (span durations (n ∷ rest) ≡ time)
+  pub longest : (rest : List ℕ) → IsPath g (n ∷ rest) → span durations (n ∷ rest) ≤ time
+
 -- the durations along some path sum up to 2 ^ 64 or more
 abbrev pub TakesTooLong : {N E : Type 0} → Graph N E → (durations : List ℕ) → Type 0
 TakesTooLong g durations = (path : List ℕ) × IsPath g path × (2 ^ 64 ≤ span durations path)

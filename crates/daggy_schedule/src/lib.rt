@@ -4,6 +4,7 @@
 
 mod candidates;
 pub mod fallible_ready;
+pub mod levels;
 pub mod on_workers;
 pub mod order_by;
 pub mod ready;

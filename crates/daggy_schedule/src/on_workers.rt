@@ -1,7 +1,7 @@
 //! Schedules for workers that each process one node at a time.
-ghost use Rattle.std.specs.Prelude.{◌≡◌, ◌<◌, ℕ, List, map, Err, IfOk, vec_len, length, slice_index};
+ghost use Rattle.std.specs.Prelude.{◌≡◌, ◌+◌, ◌<◌, ℕ, List, map, Err, IfOk, vec_len, length, slice_index};
 ghost use Rattle.std.specs.Int.NonZero.{non_zero_usize_get};
-ghost use Rattle.daggy_base.specs.Graph.{node_bound};
+ghost use Rattle.daggy_base.specs.Graph.{HasNode, node_bound};
 ghost use Rattle.daggy_schedule.specs.Times.{CanCallAtEachNode, AreDurations, AreEarliest, AreLatest};
 ghost use Rattle.daggy_schedule.specs.Times.{AreDoneBy, IsCritical, IsZeroElsewhere};
 ghost use Rattle.daggy_schedule.specs.Passes.{later_by};
@@ -41,6 +41,8 @@ pub struct Assignment {
     pub durations: Vec<u64>,
     /// When each node starts: all of its parents have finished, and its worker is free.
     pub starts: Vec<u64>,
+    /// When each node finishes: its duration after it starts.
+    pub finishes: Vec<u64>,
     /// The worker that processes each node. The first worker has number 0.
     pub workers: Vec<usize>,
     /// The length of the schedule: the greatest finish, or 0 if there are no nodes.
@@ -81,6 +83,7 @@ pub struct Assignment {
 /// let plan = schedule_on(rt.alloc(), &dag, |_, hours| *hours, two)?;
 /// assert!(rt; plan.makespan == 5);
 /// assert!(rt; plan.starts.as_slice() == [0, 2, 0].as_slice());
+/// assert!(rt; plan.finishes.as_slice() == [2, 5, 4].as_slice());
 /// assert!(rt; plan.workers.as_slice() == [0, 0, 1].as_slice());
 /// ```
 pub fn schedule_on<N: Drop, E: Drop, Ix: IndexType, S, F: Fn(NodeIndex<Ix>, &N) -> u64>(
@@ -94,12 +97,18 @@ where
     requires { CanCallAtEachNode Ix.of F.pre durations dag.now.graph }
     ensures sized { IfOk result (λ a. (vec_len a.durations ≡ node_bound dag.now.graph)
         × (vec_len a.starts ≡ node_bound dag.now.graph)
+        × (vec_len a.finishes ≡ node_bound dag.now.graph)
         × (vec_len a.workers ≡ node_bound dag.now.graph)) }
     ensures durations { IfOk result (λ a.
         AreDurations Ix.of F.post durations dag.now.graph a.durations.items) }
+    ensures finishes { IfOk result (λ a. (n : ℕ) → HasNode dag.now.graph n
+        → slice_index a.finishes.items n
+        ≡ slice_index a.starts.items n + slice_index a.durations.items n) }
     ensures durations_elsewhere { IfOk result (λ a.
         IsZeroElsewhere dag.now.graph a.durations.items) }
     ensures starts_elsewhere { IfOk result (λ a. IsZeroElsewhere dag.now.graph a.starts.items) }
+    ensures finishes_elsewhere { IfOk result (λ a.
+        IsZeroElsewhere dag.now.graph a.finishes.items) }
     ensures workers_elsewhere { IfOk result (λ a. IsZeroElsewhere dag.now.graph a.workers.items) }
     ensures assigned { IfOk result (λ a. IsAssignment dag.now.graph a.durations.items a.starts.items
         a.workers.items (non_zero_usize_get workers) a.makespan) }
@@ -118,7 +127,8 @@ where
     let count = workers.get();
     let plan = Schedule::new(alloc, dag, durations)?;
     let done = work_off(alloc, dag, &plan, count)?;
-    Ok(done.into_assignment(plan.durations))
+    let finishes = done.finishes(alloc, plan.durations.as_slice())?;
+    Ok(done.into_assignment(plan.durations, finishes))
 }
 
 // Simulates the workers until all nodes are done. Of the ready nodes, the one with the earliest

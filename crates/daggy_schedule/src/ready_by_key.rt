@@ -23,8 +23,9 @@ use std::marker::Model;
 /// A priority queue of the nodes of a dag that are ready: all of their parents are done. Each node
 /// is returned once, the one with the greatest key first.
 ///
-/// Ties go to the smallest index. For the least key first, wrap the keys in `Reverse`. [`Ready`]
-/// has no keys: it returns the nodes in the order in which they became ready.
+/// Ties go to the smallest index. For the least key first, wrap the keys in `Reverse`. For the
+/// critical path first, take [`bottom_levels`](crate::levels::bottom_levels) as keys. [`Ready`] has
+/// no keys: it returns the nodes in the order in which they became ready.
 ///
 /// It does not borrow the dag; each call that needs the dag borrows it for that call. Until all
 /// nodes are done, no node and no edge may be added or removed. Weights may be written: by the

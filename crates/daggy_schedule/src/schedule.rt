@@ -1,6 +1,6 @@
 //! How early and how late the nodes of a dag can start, given the duration of each, and the lags of
 //! the edges if there are any.
-ghost use Rattle.std.specs.Prelude.{◌≡◌, ℕ, ◌+◌, List, [], map, Err, IfOk, vec_len, slice_index};
+ghost use Rattle.std.specs.Prelude.{◌≡◌, ℕ, ◌+◌, ◌≤◌, List, [], map, Err, IfOk, vec_len, slice_index};
 ghost use Rattle.daggy_base.specs.Graph.{HasNode, node_bound, edge_bound};
 ghost use Rattle.daggy_schedule.specs.Times.{CanCallAtEachNode, AreDurations, IsZeroElsewhere};
 ghost use Rattle.daggy_schedule.specs.Times.{TakesTooLong};
@@ -9,6 +9,7 @@ ghost use Rattle.daggy_schedule.specs.Lags.{CanCallAtEachEdge, AreLags, IsZeroWi
 ghost use Rattle.daggy_schedule.specs.Lags.{TakesTooLongWithLags, AreEarliestWithLags};
 ghost use Rattle.daggy_schedule.specs.Lags.{AreLatestWithLags, IsMakespanWithLags};
 ghost use Rattle.daggy_schedule.specs.Lags.{IsCriticalWithLags, IsTracedBackWithLags};
+ghost use Rattle.daggy_schedule.specs.Lags.{IsScheduleOf, IsFreeFloat};
 ghost use Rattle.daggy_schedule.specs.declared.schedule.ScheduleError.TheVariants.{Overflow};
 ghost use Rattle.daggy_schedule.specs.declared.schedule.ScheduleError.TheVariants.{Memory as OutOfMemory};
 
@@ -19,10 +20,12 @@ use std::alloc::{AllocError, Global};
 use thiserror::Error;
 
 mod early;
+mod float;
 mod lags;
-mod late;
+pub(crate) mod late;
 
 use early::{earliest, path_back};
+use float::float_of;
 use lags::lags_of;
 use late::{nodes_in_order, slack_of};
 
@@ -55,7 +58,8 @@ pub struct Schedule<Ix: IndexType = DefaultIx> {
     pub starts: Vec<u64>,
     /// The earliest finish of each node.
     pub finishes: Vec<u64>,
-    /// The slack of each node: how much later it can start without increasing the makespan.
+    /// The slack of each node: how much later it can start without increasing the makespan. How much
+    /// later it can start without delaying any child is its [`free_float`](Schedule::free_float).
     pub slack: Vec<u64>,
     /// A critical path: a path whose durations and lags add up to the makespan. Empty only if there
     /// are no nodes. It ends with the node that finishes last, and each node comes after the parent
@@ -166,6 +170,8 @@ impl<Ix: IndexType> Schedule<Ix> {
             IsZeroElsewhere dag.now.graph s.finishes.items) }
         ensures slack_elsewhere { IfOk result (λ s.
             IsZeroElsewhere dag.now.graph s.slack.items) }
+        ensures schedule { IfOk result (λ s. IsScheduleOf dag.now.graph s.durations.items s.lags.items
+            s.starts.items s.finishes.items s.slack.items s.makespan) }
         ensures fits { IfOk result (λ s. ¬ TakesTooLong dag.now.graph s.durations.items) }
         ensures overflow { result ≡ Err Overflow → (durations' : List ℕ)
             × AreDurations Ix.of F.post durations dag.now.graph durations'
@@ -260,6 +266,8 @@ impl<Ix: IndexType> Schedule<Ix> {
             IsZeroElsewhere dag.now.graph s.finishes.items) }
         ensures slack_elsewhere { IfOk result (λ s.
             IsZeroElsewhere dag.now.graph s.slack.items) }
+        ensures schedule { IfOk result (λ s. IsScheduleOf dag.now.graph s.durations.items s.lags.items
+            s.starts.items s.finishes.items s.slack.items s.makespan) }
         ensures fits { IfOk result (λ s.
             ¬ TakesTooLongWithLags dag.now.graph s.durations.items s.lags.items) }
         ensures overflow { result ≡ Err Overflow → (durations' lags' : List ℕ)
@@ -270,6 +278,67 @@ impl<Ix: IndexType> Schedule<Ix> {
         let durations = durations_of(alloc, dag, durations)?;
         let lags = lags_of(alloc, dag, lags)?;
         timed(alloc, dag, durations, lags)
+    }
+
+    /// Computes the free float of each node: how much later it can start if each of its children
+    /// still starts at its earliest start. A node without children can start later until it finishes
+    /// at the makespan. The list is indexed by node, with 0 at indices without a node.
+    ///
+    /// The free float of a node is at most its slack. If it is less, the node can be delayed by its
+    /// slack only if other nodes are delayed too.
+    ///
+    /// # Requires
+    ///
+    /// - The schedule was made for this `dag` and is unchanged, and no node or edge has been added or
+    ///   removed since. Weights may have been written.
+    ///
+    /// # Errors
+    ///
+    /// Returns `AllocError` if an allocation fails.
+    ///
+    /// # Complexity
+    ///
+    /// O(nodes + edges).
+    ///
+    /// # Examples
+    ///
+    /// ```
+    /// // Each of digging and sowing has a slack of 3 days, but sowing has to wait for digging.
+    /// let mut dag: Dag<u64, ()> = Dag::new(rt.alloc());
+    /// let dig = dag.add_node(1)?;
+    /// let (_, sow) = dag.add_child(dig, (), 1)?;
+    /// dag.add_node(5)?;
+    /// let plan = Schedule::new(rt.alloc(), &dag, |_, days| *days)?;
+    /// let free_float = plan.free_float(rt.alloc(), &dag)?;
+    /// assert!(rt; plan.slack.as_slice() == [3, 3, 0].as_slice());
+    /// assert!(rt; free_float.as_slice() == [0, 3, 0].as_slice());
+    /// assert!(rt; free_float[dig.index()] == 0 && free_float[sow.index()] == 3);
+    /// ```
+    pub fn free_float<N: Drop, E: Drop, S>(
+        &self,
+        alloc: Global,
+        dag: &Acyclic<N, E, Ix, S>,
+    ) -> Result<Vec<u64>, AllocError>
+    where
+        S: ReadStore<Ix, NodeWeight = N, EdgeWeight = E>,
+        requires { IsScheduleOf dag.now.graph self.now.durations.items self.now.lags.items
+            self.now.starts.items self.now.finishes.items self.now.slack.items self.now.makespan }
+        ensures sized { IfOk result (λ float. vec_len float ≡ node_bound dag.now.graph) }
+        ensures free_float { IfOk result (λ float. (n : ℕ) → HasNode dag.now.graph n
+            → IsFreeFloat dag.now.graph self.now.durations.items self.now.lags.items
+            self.now.starts.items self.now.makespan n (slice_index float.items n)) }
+        ensures at_most_slack { IfOk result (λ float. (n : ℕ) → HasNode dag.now.graph n
+            → slice_index float.items n ≤ slice_index self.now.slack.items n) }
+        ensures elsewhere { IfOk result (λ float. IsZeroElsewhere dag.now.graph float.items) }
+    {
+        float_of(
+            alloc,
+            dag,
+            self.lags.as_slice(),
+            self.starts.as_slice(),
+            self.finishes.as_slice(),
+            self.makespan,
+        )
     }
 }
 
@@ -306,6 +375,8 @@ where
     ensures finishes_elsewhere { IfOk result (λ s.
         IsZeroElsewhere dag.now.graph s.finishes.items) }
     ensures slack_elsewhere { IfOk result (λ s. IsZeroElsewhere dag.now.graph s.slack.items) }
+    ensures schedule { IfOk result (λ s. IsScheduleOf dag.now.graph s.durations.items s.lags.items
+        s.starts.items s.finishes.items s.slack.items s.makespan) }
     ensures fits { IfOk result (λ s.
         ¬ TakesTooLongWithLags dag.now.graph s.durations.items s.lags.items) }
     ensures overflow { result ≡ Err Overflow
@@ -340,7 +411,7 @@ where
 }
 
 // What the closure returns for each node.
-fn durations_of<N: Drop, E: Drop, Ix: IndexType, S, F: Fn(NodeIndex<Ix>, &N) -> u64>(
+pub(crate) fn durations_of<N: Drop, E: Drop, Ix: IndexType, S, F: Fn(NodeIndex<Ix>, &N) -> u64>(
     alloc: Global,
     dag: &Acyclic<N, E, Ix, S>,
     f: F,

@@ -1,6 +1,6 @@
 //! The workers and the nodes they process, over time.
-ghost use Rattle.std.specs.Prelude.{◌≡◌, ◌∷◌, ℕ, ◌<◌, ◌≤◌, [], length, replicate, true, false, Ok, Err, IfOk};
-ghost use Rattle.std.specs.Prelude.{OnOk, Contains, MatchOption, vec_len, slice_set};
+ghost use Rattle.std.specs.Prelude.{◌≡◌, ◌∷◌, ℕ, ◌+◌, ◌<◌, ◌≤◌, [], length, replicate, true, false, Ok, Err, IfOk};
+ghost use Rattle.std.specs.Prelude.{OnOk, Contains, MatchOption, vec_len, slice_index, slice_set};
 ghost use Rattle.std.specs.List.{AllByRecursion};
 ghost use Rattle.daggy_schedule.specs.LeastFirst.{nodes_of};
 ghost use Rattle.daggy_schedule.specs.Workers.{Waits, Begins, Finishes, IsStuck, IsTooLate, IsIdleWorker};
@@ -127,9 +127,29 @@ impl<Ix: IndexType> Workers<Ix> {
         Ok(Some(n))
     }
 
-    // When each node started and which worker processed it, with the durations.
-    pub fn into_assignment(self, durations: Vec<u64>) -> Assignment
+    // When each node finishes.
+    pub fn finishes(&self, alloc: Global, durations: &[u64]) -> Result<Vec<u64>, AllocError>
+        requires sized { length self.now.starts ≡ length durations.now }
+        requires ended { (i : ℕ)
+            → slice_index self.now.starts i + slice_index durations.now i ≤ self.now.now }
+        ensures sized { IfOk result (λ finishes. vec_len finishes ≡ length durations.now) }
+        ensures finishes { IfOk result (λ finishes. (i : ℕ) → slice_index finishes.items i
+            ≡ slice_index self.entry.now.starts i + slice_index durations.now i) }
+    {
+        // Read only for its range: no sum is greater.
+        let _now = self.now;
+        let bound = durations.len();
+        let mut finishes = Vec::with_capacity(alloc, bound)?;
+        'nodes: for i in 0..bound {
+            finishes.push(self.starts[i] + durations[i])?;
+        }
+        Ok(finishes)
+    }
+
+    // When each node started and which worker processed it, with the durations and the finishes.
+    pub fn into_assignment(self, durations: Vec<u64>, finishes: Vec<u64>) -> Assignment
         ensures durations { result.durations ≡ durations }
+        ensures finishes { result.finishes ≡ finishes }
         ensures starts { result.starts.items ≡ self.starts }
         ensures workers { result.workers.items ≡ self.workers }
         ensures makespan { result.makespan ≡ self.now }
@@ -137,6 +157,7 @@ impl<Ix: IndexType> Workers<Ix> {
         Assignment {
             durations,
             starts: self.starts,
+            finishes,
             workers: self.workers,
             makespan: self.now,
         }

@@ -8,12 +8,18 @@ use daggy_base::read_store::ReadStore;
 use daggy_dag::acyclic::Acyclic;
 use std::alloc::{AllocError, Global};
 
+// The time at an index, or 0 if the list has none.
+pub(super) fn time_at(times: &[u64], i: usize) -> u64
+    ensures { result ≡ slice_index times.now i }
+{
+    if i < times.len() { times[i] } else { 0 }
+}
+
 // The lag of an edge, or 0 if the list has none.
 pub(super) fn lag_at<Ix: IndexType>(lags: &[u64], e: EdgeIndex<Ix>) -> u64
     ensures { result ≡ slice_index lags.now (Ix.number e) }
 {
-    let i = e.index();
-    if i < lags.len() { lags[i] } else { 0 }
+    time_at(lags, e.index())
 }
 
 // What the closure returns for each edge.

@@ -8,15 +8,15 @@ ghost use Rattle.daggy_schedule.specs.Lags.{AreEarliestWithLags, AreLatestWithLa
 ghost use Rattle.daggy_schedule.specs.Passes.{AreNoted, IsLast, IsLatestFinish, later_by};
 
 use crate::schedule::early::Early;
-use crate::schedule::lags::lag_at;
+use crate::schedule::lags::{lag_at, time_at};
 use daggy_base::index::{Direction, EdgeIndex, IndexType, NodeIndex};
 use daggy_base::read_store::ReadStore;
 use daggy_dag::acyclic::Acyclic;
 use std::alloc::{AllocError, Global};
 
 // The latest time at which a node can finish, from the latest starts of its children and the lags of
-// the edges to them.
-fn latest_finish<Ix: IndexType, S: ReadStore<Ix>>(
+// the edges to them. A node has slack 0 if the list of slacks has none for it.
+pub(super) fn latest_finish<Ix: IndexType, S: ReadStore<Ix>>(
     store: &S,
     n: NodeIndex<Ix>,
     makespan: u64,
@@ -25,7 +25,6 @@ fn latest_finish<Ix: IndexType, S: ReadStore<Ix>>(
     slack: &[u64],
 ) -> u64
     requires starts { node_bound (S.graph store.now) ≤ length starts.now }
-    requires slack { node_bound (S.graph store.now) ≤ length slack.now }
     requires low { (v : ℕ) → AreJoined (S.graph store.now) (Ix.number n) v
         → later_by starts.now slack.now v ≤ makespan }
     requires lags { (v : ℕ) (edge : AreJoined (S.graph store.now) (Ix.number n) v)
@@ -43,14 +42,14 @@ fn latest_finish<Ix: IndexType, S: ReadStore<Ix>>(
         e = store.next_edge(e, Direction::Outgoing);
         if let Some((_parent, child)) = ends {
             let i = child.index();
-            latest = latest.min(starts[i] + slack[i] - lag);
+            latest = latest.min(starts[i] + time_at(slack, i) - lag);
         }
     }
     latest
 }
 
 // The nodes in the order of the dag.
-pub(super) fn nodes_in_order<N: Drop, E: Drop, Ix: IndexType, S>(
+pub(crate) fn nodes_in_order<N: Drop, E: Drop, Ix: IndexType, S>(
     alloc: Global,
     dag: &Acyclic<N, E, Ix, S>,
 ) -> Result<Vec<NodeIndex<Ix>>, AllocError>

@@ -1,10 +1,11 @@
-use Rattle.std.proofs.Common.{◌≡◌, ◌<◌, List, ℕ, Err, sym, ap, subst, arith}
+use Rattle.std.proofs.Common.{◌≡◌, ◌<◌, ◌∙◌, List, ℕ, Err, get_or, sym, ap, subst, arith}
 use Rattle.std.specs.Int.NonZero.{non_zero_usize_get}
 use Rattle.std.specs.Result.{IsErrAnd}
 use Rattle.daggy_schedule.specs.declared.schedule.ScheduleError.TheVariants.{Overflow}
 use Rattle.daggy_schedule.specs.Times.{AreDurations, IsZeroElsewhere}
 use Rattle.daggy_schedule.specs.Assignments.{AreKeptBusy, IsNearBest}
 use Rattle.daggy_schedule.proofs.Load.{path_too_long}
+use Rattle.daggy_schedule.proofs.Elsewhere.{ends_by}
 use Rattle.daggy_schedule.proofs.on_workers.schedule_on.Goals as goal
 
 pub returns-in_err-plan-clause-overflow : goal.returns-in_err-plan-clause-overflow
@@ -61,3 +62,32 @@ returns-clause-near_best g c =
     let C : ℕ → Type 0 = λ z. IsNearBest graph c.in_ok-plan.plan.durations.items z c.in_ok-done.done.now in
     subst D (sym c.into_assignment.ensures.durations)
     (subst M (sym c.into_assignment.ensures.makespan) (subst C c.get-count.ensures.value c.in_ok-done.ensures.near_best))
+
+-- each node has finished by the time at which all are done
+pub finishes-requires-clause-ended : goal.finishes-requires-clause-ended
+finishes-requires-clause-ended g c i =
+    rw c.as_slice.ensures.value
+    (ends_by c.args.dag.now.graph c.in_ok-plan.plan.durations.items c.in_ok-done.done.starts
+    c.in_ok-done.ensures.assigned.met c.in_ok-done.ensures.elsewhere.0 c.in_ok-plan.ensures.durations_elsewhere i)
+
+pub returns-clause-finishes : goal.returns-clause-finishes
+returns-clause-finishes g c n _ =
+    omega (
+      arith,
+      ap (λ z. get_or z.items n 0) c.into_assignment.ensures.finishes,
+      c.in_ok-finishes.ensures.finishes n,
+      ap (λ z. get_or z n 0) c.as_slice.ensures.value,
+      ap (λ z. get_or z n 0) c.into_assignment.ensures.starts,
+      ap (λ z. get_or z.items n 0) c.into_assignment.ensures.durations,
+    )
+
+pub returns-clause-finishes_elsewhere : goal.returns-clause-finishes_elsewhere
+returns-clause-finishes_elsewhere g c n none =
+    ap (λ z. get_or z.items n 0) c.into_assignment.ensures.finishes
+    ∙ omega (
+      arith,
+      c.in_ok-finishes.ensures.finishes n,
+      ap (λ z. get_or z n 0) c.as_slice.ensures.value,
+      c.in_ok-done.ensures.elsewhere.0 n none,
+      c.in_ok-plan.ensures.durations_elsewhere n none,
+    )

@@ -3,7 +3,7 @@ use Rattle.daggy_schedule.specs.Lags.{AreEarliestWithLags, AreLatestWithLags}
 use Rattle.daggy_schedule.specs.Passes.{AreNoted, later_by}
 use Rattle.daggy_schedule.proofs.Whole.{whole_makespan, whole_critical, whole_traced, whole_fits}
 use Rattle.daggy_schedule.proofs.schedule.timed.Given.{Over}
-use Rattle.daggy_schedule.proofs.schedule.timed.Goals.{In_ok-early}
+use Rattle.daggy_schedule.proofs.schedule.timed.Goals.{In_ok-early, In_ok-slack}
 use Rattle.daggy_schedule.proofs.schedule.timed.Goals as goal
 
 -- what the pass along the order noted, of the durations and the lags
@@ -37,13 +37,19 @@ returns-clause-makespan g c =
     let at = (goal.at.returns-clause-makespan g c).In_ok-early in
     whole_makespan (noted g at) (earliest g at) c.in_ok-early.ensures.last
 
-pub returns-clause-slack : goal.returns-clause-slack
-returns-clause-slack g c =
+-- the latest starts, of the durations and the lags
+latest : (g : Over) (c : In_ok-slack g)
+    → AreLatestWithLags c.args.dag.now.graph c.args.durations.items c.args.lags.items
+    (later_by c.in_ok-early.early.starts.items c.in_ok-slack.slack.items) c.in_ok-early.early.makespan
+latest g c =
     let early = c.in_ok-early.early in
     let P : List ℕ → List ℕ → Type 0 = λ d l. AreLatestWithLags c.args.dag.now.graph d l
     (later_by early.starts.items c.in_ok-slack.slack.items) early.makespan in
     subst (λ d. P d c.args.lags.items) c.as_slice-4.ensures.value
     (subst (P c.as_slice-4.result.now) c.as_slice-5.ensures.value c.in_ok-slack.ensures.latest)
+
+pub returns-clause-slack : goal.returns-clause-slack
+returns-clause-slack g c = latest g (goal.at.returns-clause-slack g c).In_ok-slack
 
 pub returns-clause-critical : goal.returns-clause-critical
 returns-clause-critical g c =
@@ -71,3 +77,17 @@ pub returns-clause-fits : goal.returns-clause-fits
 returns-clause-fits g c =
     let at = (goal.at.returns-clause-fits g c).In_ok-early in
     whole_fits (noted g at) (earliest g at) c.in_ok-early.ensures.last (omega arith)
+
+pub returns-clause-schedule : goal.returns-clause-schedule
+returns-clause-schedule g c =
+    let at = (goal.at.returns-clause-schedule g c).In_ok-early in
+    let early = c.in_ok-early.early in
+    let sized = c.in_ok-early.ensures.sized in
+    record {
+      all_start = omega (arith, sized.0, early.starts.ok.0);
+      all_finish = omega (arith, sized.1, early.finishes.ok.0);
+      earliest = earliest g at;
+      takes = λ n h. sym ((noted g at).takes n h);
+      latest = latest g (goal.at.returns-clause-schedule g c).In_ok-slack;
+      ends = whole_makespan (noted g at) (earliest g at) c.in_ok-early.ensures.last;
+    }

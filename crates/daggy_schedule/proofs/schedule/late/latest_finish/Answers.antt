@@ -1,4 +1,4 @@
-use Rattle.std.proofs.Common.{◌≡◌, ◌≢◌, ◌<◌, ◌-◌, inl, inr, length, min, arith, rules}
+use Rattle.std.proofs.Common.{◌≡◌, ◌≢◌, ◌<◌, ◌+◌, ◌-◌, ◌∙◌, inl, inr, length, get_or, min, ap, arith, rules}
 use Rattle.std.proofs.lemmas.Bool.{cases_lt}
 use Rattle.daggy_schedule.proofs.Passing.{edge_exists, passed_closer, passed_low, passed_edge, passed_joined, ends_at}
 use Rattle.daggy_schedule.proofs.Late.{lowers_none, lowers_one, all_lowered}
@@ -44,25 +44,6 @@ offset_bounds-starts-i g c =
     let h : c.index-i.result < length c.args.starts.now = omega (arith, low, c.requires.starts) in
     search rules
 
-pub bounds-slack-i : goal.bounds-slack-i
-bounds-slack-i g c =
-    let here : g.Ix.IndexType.number c.edges.e ≢ g.Ix.IndexType.greatest = λ h. c.edges-test.true cc in
-    let w = c.invariant.ensures.well_formed in
-    let s = c.edges.invariant.passing in
-    let ends = ends_at c.in-Some.ensures c.index-i.ensures.value in
-    let low = passed_low w s here ends in
-    omega (arith, low, c.requires.slack)
-
-pub offset_bounds-slack-i : goal.offset_bounds-slack-i
-offset_bounds-slack-i g c =
-    let here : g.Ix.IndexType.number c.edges.e ≢ g.Ix.IndexType.greatest = λ h. c.edges-test.true cc in
-    let w = c.invariant.ensures.well_formed in
-    let s = c.edges.invariant.passing in
-    let ends = ends_at c.in-Some.ensures c.index-i.ensures.value in
-    let low = passed_low w s here ends in
-    let h : c.index-i.result < length c.args.slack.now = omega (arith, low, c.requires.slack) in
-    search rules
-
 pub overflow_add-starts : goal.overflow_add-starts
 overflow_add-starts g c =
     let here : g.Ix.IndexType.number c.edges.e ≢ g.Ix.IndexType.greatest = λ h. c.edges-test.true cc in
@@ -91,7 +72,9 @@ edges-preserved-in-Some g c =
     let low = c.requires.lags _ (g.Ix.IndexType.number c.edges.e, edge.0, edge.1) in
     let lag = c.lag_at-lag.result in
     let least = c.min-latest.result in
-    let is : least ≡ min c.edges.latest (child - lag) = c.min-latest.ensures in
+    let is : least ≡ min c.edges.latest (child - lag) =
+    c.min-latest.ensures
+    ∙ ap (λ z. min c.edges.latest (get_or c.args.starts.now c.index-i.result 0 + z - lag)) c.time_at.ensures in
     lowers_one w s here ends (g.Ix.IndexType.number c.next_edge-e.result) c.next_edge-e.ensures least
     (omega (arith, is)) (omega (arith, is, low, c.lag_at-lag.ensures))
     (elim (cases_lt c.edges.latest (child - lag)) [

@@ -55,13 +55,6 @@ offset_bounds-order-k g c =
     let low : k < length c.args.order.now = omega (arith, c.nodes-test.true, s.within) in
     search rules
 
-pub latest_finish-latest-requires-clause-slack : goal.latest_finish-latest-requires-clause-slack
-latest_finish-latest-requires-clause-slack g c =
-    let number = g.Ix.IndexType.number in
-    let S = c.graph-store.ensures.graph in
-    let s = c.nodes.invariant in
-    omega (arith, s.sized, ap node_bound S, c.as_slice-in-nodes.ensures.len)
-
 pub latest_finish-latest-requires-clause-low : goal.latest_finish-latest-requires-clause-low
 latest_finish-latest-requires-clause-low g c =
     let number = g.Ix.IndexType.number in
