@@ -12,3 +12,4 @@ pub mod PlansByKey
 pub mod WorkCounts
 pub mod Durations
 pub mod KeyedNodes
+pub mod KeptByKey

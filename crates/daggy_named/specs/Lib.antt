@@ -8,3 +8,4 @@ pub mod Planned
 pub mod Working
 pub mod Scheduled
 pub mod Keyed
+pub mod Retained

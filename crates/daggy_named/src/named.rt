@@ -19,6 +19,7 @@ ghost use Rattle.indexmap.specs.IndexMap.{index_map_len, spare, get, IsUnique, I
 ghost use Rattle.daggy_named.specs.Naming.{key_at, index_in, index_by, weight_by, IsNamed, ForNodes};
 ghost use Rattle.daggy_named.specs.Places.{keys_at, IsKept};
 ghost use Rattle.daggy_named.specs.Lends.{lends_weight};
+ghost use Rattle.daggy_named.specs.Retained.{without_named};
 ghost use Rattle.daggy_named.specs.declared.error.AddError.TheVariants as refused;
 ghost use Rattle.daggy_named.specs.declared.error.DependError.TheVariants as depend;
 
@@ -38,6 +39,7 @@ mod keys;
 mod planning;
 mod questions;
 mod ready;
+mod retain;
 mod scheduling;
 mod setting;
 mod topological;
@@ -412,9 +414,19 @@ impl<K: Eq + Hash + Drop, N: Drop, E: Drop, Ix: IndexType> Named<K, N, E, Ix> {
         ensures missing { IfNone result (self.new ≡ self.old) }
     {
         let n = self.index_of(key)?;
+        Some(self.remove_at(n))
+    }
+
+    // Removes a node and its edges, and returns its key and its weight.
+    fn remove_at(&mut self, n: NodeIndex<Ix>) -> (K, N)
+        requires { HasNode self.old.graph (Ix.number n) }
+        ensures key { key_at self.old.keys (Ix.number n) ≡ Some result.0 }
+        ensures weight { node_weight self.old.graph (Ix.number n) ≡ Some result.1 }
+        ensures removed { self.new ≡ without_named self.old (Ix.number n) }
+    {
         let key = take_name(&mut self.nodes, &mut self.places, n);
         let weight = self.dag.remove_node(n).unwrap();
-        Some((key, weight))
+        (key, weight)
     }
 }
 

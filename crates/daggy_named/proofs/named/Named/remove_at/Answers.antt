@@ -7,17 +7,17 @@ use Rattle.daggy_order.proofs.OrderLaws.{nodes_isolated}
 use Rattle.daggy_named.proofs.Entries.{when_some}
 use Rattle.daggy_named.proofs.Removed.{kept_for, slots_without}
 use Rattle.daggy_named.proofs.Slots.{same_marks}
-use Rattle.daggy_named.proofs.named.Named.remove.Goals as goal
+use Rattle.daggy_named.proofs.named.Named.remove_at.Goals as goal
 
 pub take_name-key-requires-clause-there : goal.take_name-key-requires-clause-there
 take_name-key-requires-clause-there g c =
-    let n = g.Ix.IndexType.number c.in_ok-n.n in
+    let n = g.Ix.IndexType.number c.args.n in
     same_marks c.self.inside.places.items c.self.inside.dag.graph.nodes c.self.invariant.slots n
-    ∙ subst (λ s. HasNode s.graph n) (sym c.self.view_is) c.in_ok-n.ensures.exists
+    ∙ subst (λ s. HasNode s.graph n) (sym c.self.view_is) c.requires
 
 pub invariant_of-self : goal.invariant_of-self
 invariant_of-self g c =
-    let n = g.Ix.IndexType.number c.in_ok-n.n in
+    let n = g.Ix.IndexType.number c.args.n in
     let old = c.self.inside.dag in
     let new = c.remove_node.new.self in
     let removed : new ≡ with_graph old (without_node Stable old.graph n) =
