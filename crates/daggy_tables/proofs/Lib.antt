@@ -1,0 +1,14 @@
+pub mod EdgeBounds
+pub mod EdgesRead
+pub mod Escaped
+pub mod Explained
+pub mod FieldsRead
+pub mod FullSlots
+pub mod HeaderRead
+pub mod LinesRead
+pub mod Numbers
+pub mod RowsLeftOver
+pub mod RowsSaid
+pub mod RowsWritten
+pub mod TablesRead
+pub mod TextRead
