@@ -225,7 +225,7 @@ depth_begins g {d} none empty there waits room =
     is_false true none = absurd (none refl)
     is_false false none = refl
 
-nothing_in : (xs : List ℕ) → first_in xs ≡ None → xs ≡ []
+pub nothing_in : (xs : List ℕ) → first_in xs ≡ None → xs ≡ []
 nothing_in [] h = refl
 nothing_in (x ∷ xs) h = cc
 

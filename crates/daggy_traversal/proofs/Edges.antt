@@ -155,27 +155,37 @@ module _ {N E : Type 0} {end : ℕ} {g : Graph N E} (w : IsWellFormed end g) (di
       by_edge None is = sym (from_none (list_at dir g n) end (no_end n))
       by_edge (Some x) is = absurd (omega (arith, edge_below end g w end x is))
 
-  -- from the first edge on all neighbors are left
-  pub left_first : (n e : ℕ) → e ≡ first_of end (list_at dir g n) → neighbors_left dir g e ≡ neighbors dir g n
-  left_first n e is =
+  -- from the first edge on all edges are left
+  pub edges_first : (n e : ℕ) → e ≡ first_of end (list_at dir g n) → edges_left dir g e (edge_at g e) ≡ list_at dir g n
+  edges_first n e is =
       let P : ℕ → Type 0 = λ z. (z ≡ end) ⊎ Mem z (list_at dir g n) in
-      ap (λ z. map (λ k. far_or dir (edge_at g k)) z)
-      (edges_at n e (subst P (sym is) (first_mem (list_at dir g n) end))
-      ∙ (ap (λ z. rest_from (list_at dir g n) z) is ∙ from_first (list_at dir g n) end))
+      edges_at n e (subst P (sym is) (first_mem (list_at dir g n) end))
+      ∙ (ap (λ z. rest_from (list_at dir g n) z) is ∙ from_first (list_at dir g n) end)
+
+  -- and all neighbors
+  pub left_first : (n e : ℕ) → e ≡ first_of end (list_at dir g n) → neighbors_left dir g e ≡ neighbors dir g n
+  left_first n e is = ap (λ z. map (λ k. far_or dir (edge_at g k)) z) (edges_first n e is)
+
+  -- one edge less
+  pub edges_next : {e v next : ℕ} → IsNeighbor dir end g e v next
+      → edges_left dir g e (edge_at g e) ≡ e ∷ edges_left dir g next (edge_at g next)
+  edges_next {e} {v} {next} step =
+      let n = near_end dir step.edge in
+      let xs = list_at dir g n in
+      let m : Mem e xs = edge_listed e step.edge step.at in
+      let P : ℕ → Type 0 = λ z. (z ≡ end) ⊎ Mem z xs in
+      let after_is : edges_left dir g next (edge_at g next) ≡ rest_from xs (after end xs e) =
+      edges_at n next (subst P (sym step.next_is) (after_mem xs e end)) ∙ ap (λ z. rest_from xs z) step.next_is in
+      edges_at n e (inr m) ∙ (from_after xs e end (list_once n) (no_end n) m ∙ ap (λ z. e ∷ z) (sym after_is))
+
+  pub far_here : {e v next : ℕ} → IsNeighbor dir end g e v next → far_or dir (edge_at g e) ≡ v
+  far_here {e} {v} {next} step = ap (λ o. far_or dir o) step.at ∙ sym step.far
 
   -- one neighbor less
   pub left_next : {e v next : ℕ} → IsNeighbor dir end g e v next → neighbors_left dir g e ≡ v ∷ neighbors_left dir g next
   left_next {e} {v} {next} step =
-      let n = near_end dir step.edge in
-      let xs = list_at dir g n in
-      let m : Mem e xs = edge_listed e step.edge step.at in
-      let far : ℕ → ℕ = λ k. far_or dir (edge_at g k) in
-      let P : ℕ → Type 0 = λ z. (z ≡ end) ⊎ Mem z xs in
-      let after_is : edges_left dir g next (edge_at g next) ≡ rest_from xs (after end xs e) =
-      edges_at n next (subst P (sym step.next_is) (after_mem xs e end)) ∙ ap (λ z. rest_from xs z) step.next_is in
-      let here : far e ≡ v = ap (λ o. far_or dir o) step.at ∙ sym step.far in
-      ap (map far) (edges_at n e (inr m) ∙ from_after xs e end (list_once n) (no_end n) m)
-      ∙ (ap (λ z. z ∷ map far (rest_from xs (after end xs e))) here ∙ ap (λ z. v ∷ map far z) (sym after_is))
+      ap (map (λ k. far_or dir (edge_at g k))) (edges_next step)
+      ∙ ap (λ z. z ∷ neighbors_left dir g next) (far_here step)
 
   pub neighbor_leads : (n v : ℕ) → Mem v (neighbors dir g n) → LeadsTo dir g n v
   neighbor_leads n v m =

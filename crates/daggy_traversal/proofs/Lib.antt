@@ -1,6 +1,7 @@
 mod Nothing
 pub mod Members
 pub mod Edges
+pub mod Listed
 pub mod Fresh
 pub mod Marks
 pub mod Meeting
@@ -10,6 +11,7 @@ pub mod Breadth
 pub mod Others
 pub mod Descending
 pub mod Depth
+pub mod OldestFirst
 pub mod Seeking
 pub mod GoingDown
 pub mod Postorder

@@ -1,18 +1,19 @@
 -- Walks go on while weights are written.
-use Rattle.std.proofs.Common.{◌≡◌, ℕ, zero, suc, ◌≤◌, Bool, true, cond, ◌&&◌, List, [], ◌∷◌, ◌++◌, Option, Some, None, is_some}
-use Rattle.std.proofs.Common.{map, set, refl, sym, ap, subst, ◌∙◌}
+use Rattle.std.proofs.Common.{◌≡◌, ℕ, zero, suc, ◌≤◌, true, cond, List, [], ◌∷◌, ◌++◌, Option, Some, None, is_some}
+use Rattle.std.proofs.Common.{map, length, set, refl, sym, ap, subst, ◌∙◌}
 use Rattle.std.specs.Option.{option_map}
 use Rattle.std.proofs.lemmas.Bool.{false≢true}
 use Rattle.daggy_base.specs.declared.index.Direction.{Direction}
 use Rattle.daggy_base.specs.declared.index.Direction.TheVariants.{Outgoing, Incoming}
-use Rattle.daggy_base.specs.Graph.{Graph, Edge, HasNode, node_weight, edge_at, slot, ends_of, list_at, bound_of, bound_step}
+use Rattle.daggy_base.specs.Graph.{Graph, Edge, HasNode, edge_at, slot, ends_of, list_at, bound_of, bound_step}
 use Rattle.daggy_base.specs.Path.{AreJoined}
 use Rattle.daggy_base.specs.Weights.{with_node_weight, with_edge_weight, edge_with_weight}
 use Rattle.daggy_traversal.specs.Reweighed.{HasSameShape}
 use Rattle.daggy_traversal.specs.Traversal.{LeadsTo, far_of, far_or, neighbors, edges_left, neighbors_left, neighbors_of, rest_from}
-use Rattle.daggy_traversal.specs.Traversal.{begin, is_among, are_found, without_old}
-use Rattle.daggy_traversal.specs.Breadth.{Breadth, IsBreadthFirst, fresh}
+use Rattle.daggy_traversal.specs.Traversal.{begin, are_found, without_old}
+use Rattle.daggy_traversal.specs.Breadth.{Breadth, IsBreadthFirst}
 use Rattle.daggy_traversal.specs.Depth.{Depth, IsDepthFirst, neighbors_back, ahead}
+use Rattle.daggy_traversal.specs.OldestFirst.{OldestFirst, IsOldestFirst, edges_of, oldest_back}
 use Rattle.daggy_traversal.specs.Postorder.{Postorder, IsPostorder, leads_along, is_way}
 
 -- ---- a weight is written
@@ -116,6 +117,14 @@ module _ {N E M F : Type 0} (g : Graph N E) (h : Graph M F) (s : HasSameShape g 
   neighbors_back_same dir [] = refl
   neighbors_back_same dir (n ∷ ns) = let here = neighbors_same dir n in let rest = neighbors_back_same dir ns in cc
 
+  oldest_back_same : (dir : Direction) (ns : List ℕ) → oldest_back dir h ns ≡ oldest_back dir g ns
+  oldest_back_same dir [] = refl
+  oldest_back_same dir (n ∷ ns) = let here = neighbors_same dir n in let rest = oldest_back_same dir ns in cc
+
+  edges_of_same : (dir : Direction) (ns : List ℕ) → edges_of dir h ns ≡ edges_of dir g ns
+  edges_of_same dir [] = refl
+  edges_of_same dir (n ∷ ns) = let here = s.lists dir n in let rest = edges_of_same dir ns in cc
+
   begin_same : (start : ℕ) → begin h start ≡ begin g start
   begin_same start = ap (λ b. cond b (start ∷ []) []) (s.nodes start)
 
@@ -194,6 +203,23 @@ module _ {N E M F : Type 0} (g : Graph N E) (h : Graph M F) (s : HasSameShape g 
         first = λ waits. (let was = w.first waits in (s.nodes walk.start ∙ was.0, was.1, was.2));
         few = w.few;
         room = subst P (sym s.bound) w.room;
+      }
+
+  pub still_oldest_first : (walk : OldestFirst) → IsOldestFirst g walk → IsOldestFirst h walk
+  still_oldest_first walk w =
+      let first = begin_same walk.start in
+      let back = oldest_back_same walk.dir walk.given in
+      let P : ℕ → Type 0 = λ z. z ≤ walk.bound in
+      let Q : List ℕ → Type 0 = λ z. length walk.stack ≤ suc (length z) in
+      let R : List ℕ → Type 0 = λ z. length z ≤ walk.room in
+      record {
+        left = (let was = w.left in cc);
+        once = w.once;
+        found = found_same walk.dir walk.start [] walk.given ∙ w.found;
+        present = λ n among. s.nodes n ∙ w.present n among;
+        few = subst Q (sym (edges_of_same walk.dir walk.given)) w.few;
+        bounded = subst P (sym s.bound) w.bounded;
+        fits = λ ns once. subst R (sym (edges_of_same walk.dir ns)) (w.fits ns once);
       }
 
   pub still_postorder : (walk : Postorder) → IsPostorder g walk → IsPostorder h walk
