@@ -10,3 +10,6 @@ pub mod Ways
 pub mod Steps
 pub mod Distances
 pub mod PathsListed
+pub mod Merged
+pub mod ChildOrder
+pub mod SortedChildren
