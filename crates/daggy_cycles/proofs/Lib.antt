@@ -6,3 +6,5 @@ pub mod Removed
 pub mod LeftOut
 pub mod Tried
 pub mod Trying
+pub mod GatheredEdges
+pub mod CyclesWithPairs
