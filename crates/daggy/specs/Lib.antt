@@ -58,6 +58,9 @@ pub use Rattle.daggy_operators.specs.Operators
 pub use Rattle.daggy_operators.specs.Common
 pub use Rattle.daggy_operators.specs.Closure
 pub use Rattle.daggy_operators.specs.SimplePaths
+pub use Rattle.daggy_operators.specs.Children
+pub use Rattle.daggy_operators.specs.SortedChildren
+pub use Rattle.daggy_operators.specs.Merging
 pub use Rattle.daggy_schedule.specs.Work
 pub use Rattle.daggy_schedule.specs.Times
 pub use Rattle.daggy_schedule.specs.Lags
@@ -68,6 +71,7 @@ pub use Rattle.daggy_schedule.specs.Fallible
 pub use Rattle.daggy_traversal.specs.Traversal
 pub use Rattle.daggy_traversal.specs.Breadth
 pub use Rattle.daggy_traversal.specs.Depth
+pub use Rattle.daggy_traversal.specs.OldestFirst
 pub use Rattle.daggy_traversal.specs.Postorder
 pub use Rattle.daggy_named.specs.Dependencies
 pub use Rattle.daggy_named.specs.Naming
@@ -78,12 +82,17 @@ pub use Rattle.daggy_named.specs.Scheduled
 pub use Rattle.daggy_named.specs.Asked
 pub use Rattle.daggy_named.specs.Refused
 pub use Rattle.daggy_named.specs.Lends as NamedLends
+pub use Rattle.daggy_named.specs.Retained as RetainedByKey
 pub use Rattle.daggy_dot.specs.Picture
 pub use Rattle.daggy_dot.specs.Escapes
 pub use Rattle.daggy_dot.specs.Values as DotValues
 pub use Rattle.daggy_formats.specs.Document as Formats
 pub use Rattle.daggy_formats.specs.Escapes as FormatEscapes
 pub use Rattle.daggy_formats.specs.Lines as FormatLines
+pub use Rattle.daggy_tables.specs.Rows as TableRows
+pub use Rattle.daggy_tables.specs.Tables
+pub use Rattle.daggy_tables.specs.Reading as TablesRead
+pub use Rattle.daggy_tables.specs.ReadBack as TablesReadBack
 pub use Rattle.daggy_base.specs.Look
 pub use Rattle.daggy_base.specs.Errors
 pub use Rattle.daggy_base.specs.Capacity
@@ -112,6 +121,7 @@ pub use Rattle.daggy_cycles.specs.CycleEdges
 pub use Rattle.daggy_cycles.specs.EdgeWays
 pub use Rattle.daggy_cycles.specs.Feedback
 pub use Rattle.daggy_cycles.specs.Shortest
+pub use Rattle.daggy_cycles.specs.WithPairs
 pub use Rattle.daggy_computed.specs.Computation as ComputedValues
 pub use Rattle.daggy_computed.specs.Inputs as ComputedInputs
 pub use Rattle.daggy_computed.specs.Marking

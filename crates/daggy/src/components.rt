@@ -18,4 +18,6 @@ pub use daggy_components::{
 pub use daggy_condensation::{
     condensed_dag, condensed_dag_with_all_edges, condensed_dag_with_fold,
 };
-pub use daggy_cycles::{cycle_edges, feedback_arc_set, find_cycle_edges, shortest_cycle};
+pub use daggy_cycles::{
+    cycle_edges, feedback_arc_set, find_cycle_edges, find_cycle_with_edges, shortest_cycle,
+};

@@ -19,8 +19,8 @@
 //!
 //! - [`named`]: dags whose nodes have keys, and whose methods accept any key; [`computed`]: dags
 //!   whose nodes have formulas and values.
-//! - [`operators`]: subgraphs of a dag, reversed dags, transitive closures, simple paths, and lowest
-//!   common ancestors.
+//! - [`operators`]: subgraphs of a dag, reversed and merged dags, transitive closures, simple paths,
+//!   lowest common ancestors, and the order of children.
 //! - [`schedule`]: ready queues, schedules and orders by keys; [`run`]: plans in stages, and lists
 //!   of commands.
 //! - [`traversal`]: breadth-first and depth-first walks; [`walker`]: walkers, which iterate without

@@ -5,8 +5,10 @@
 //! [`topological_order_by`] lists all nodes, each after its parents, by priority.
 //!
 //! [`Schedule`] has the earliest start and the slack of each node, and a critical path, with or
-//! without lags between the nodes. [`schedule_on`] assigns the nodes to a number of workers.
+//! without lags between the nodes. [`bottom_levels`] has the longest path from each node.
+//! [`schedule_on`] assigns the nodes to a number of workers.
 pub use daggy_schedule::fallible_ready::FallibleReady;
+pub use daggy_schedule::levels::bottom_levels;
 pub use daggy_schedule::on_workers::{Assignment, schedule_on};
 pub use daggy_schedule::order_by::topological_order_by;
 pub use daggy_schedule::ready::Ready;
