@@ -1,3 +1,4 @@
 pub mod ClearedWeights
-pub mod Texts
 pub mod Reweighed
+pub mod TextsKept
+pub mod Texts

@@ -4,4 +4,5 @@
 mod refusals;
 mod rows;
 mod support;
+mod with_edges;
 mod worked;

@@ -1,7 +1,11 @@
 //! What is asked of dags, by example: walkers, traversals, ready queues and schedules, names,
-//! closures and simple paths, and pictures.
+//! closures and simple paths, the order of children, dags that are merged, and pictures.
 #![tactic(auto)]
 
+#[cfg(test)]
+mod children;
+#[cfg(test)]
+mod merging;
 #[cfg(test)]
 mod named;
 #[cfg(test)]

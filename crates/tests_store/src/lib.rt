@@ -10,4 +10,6 @@ mod stable;
 #[cfg(test)]
 mod support;
 #[cfg(test)]
+mod tables;
+#[cfg(test)]
 mod traversal;

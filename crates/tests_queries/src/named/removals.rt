@@ -69,3 +69,36 @@ fn removals_in_any_order(rt: HostRuntime) {
     ];
     play(&rt, rt.alloc(), STEPS);
 }
+
+#[test]
+fn some_are_kept(rt: HostRuntime) {
+    const STEPS: &[Step] = &[
+        Step::Retain(0, 0),
+        Step::Add(0, 100, 0),
+        Step::Add(1, 90, 1),
+        Step::Add(2, 102, 2),
+        Step::Add(3, 103, 3),
+        Step::Depend(0, 2, 20, 0),
+        Step::Depend(1, 2, 21, 1),
+        Step::Depend(2, 3, 32, 2),
+        // All are kept.
+        Step::Retain(7, 90),
+        Step::Counts(4, 3),
+        // Key 1 has too low a weight, and key 3 is not wanted.
+        Step::Retain(3, 91),
+        Step::Counts(2, 1),
+        Step::Find(0, Some((0, 100))),
+        Step::Find(1, None),
+        Step::Find(2, Some((2, 102))),
+        Step::Find(3, None),
+        Step::Key(1, None),
+        Step::Key(2, Some(2)),
+        Step::Refused(2, 0, 2, WouldCycle),
+        // Removals go from the last index down, and the slot vacated last is used first.
+        Step::Add(8, 108, 1),
+        Step::Add(9, 109, 3),
+        Step::Retain(0, 200),
+        Step::Counts(0, 0),
+    ];
+    play(&rt, rt.alloc(), STEPS);
+}

@@ -1,5 +1,5 @@
 //! Tables of calls of a dag whose keys are numbers, with their answers.
-use super::support::{add, depend, index_of, remove, weight};
+use super::support::{add, depend, index_of, remove, retain, weight};
 use crate::support::{made, node, same};
 use daggy_base::index::{EdgeIndex, NodeIndex};
 use daggy_named::error::{AddError, DependError};
@@ -33,6 +33,8 @@ pub enum Step {
     Refused(u32, u32, u64, Refusal),
     /// A key is removed, if it was added, and its weight returned.
     Remove(u32, Option<u64>),
+    /// Only keys other than this one, whose weights are at least this one, are kept.
+    Retain(u32, u64),
     /// A key, if it was added, has this index and this weight.
     Find(u32, Option<(usize, u64)>),
     /// The node at an index, if there is one, has this key.
@@ -108,6 +110,7 @@ fn change(rt: &impl Abort, dag: &mut Numbers, step: Step) {
             (None, None) => {}
             _ => panic!(rt; "a key is removed if it was added"),
         },
+        Step::Retain(key, least) => retain(dag, &key, &least),
         _ => panic!(rt; "there is no such step"),
     }
 }

@@ -45,6 +45,15 @@ pub fn remove<K: Eq + Hash + Drop, N: Drop, E: Drop, Ix: IndexType>(
     dag.remove(key)
 }
 
+/// Keeps only the nodes whose keys are not this one, and whose weights are not below this one.
+pub fn retain<K: Eq + Hash + Drop, N: Ord + Drop, E: Drop, Ix: IndexType>(
+    dag: &mut Named<K, N, E, Ix>,
+    key: &K,
+    least: &N,
+) {
+    dag.retain(|k, weight| k != key && weight >= least);
+}
+
 /// The index of a key.
 pub fn index_of<K: Eq + Hash + Drop, N: Drop, E: Drop, Ix: IndexType>(
     dag: &Named<K, N, E, Ix>,

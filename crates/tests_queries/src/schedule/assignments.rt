@@ -40,8 +40,10 @@ fn assigns<S: Store<u32, NodeWeight = u64, EdgeWeight = ()>>(rt: &impl Abort, al
     let plan = assign(rt, alloc, &dag, 1);
     times(rt, plan.durations.as_slice(), &[3, 2, 5, 1, 4]);
     found(rt, &plan, &[0, 12, 3, 14, 8], &[0; 5], 15);
+    times(rt, plan.finishes.as_slice(), &[3, 14, 8, 15, 12]);
     let plan = assign(rt, alloc, &dag, 2);
     found(rt, &plan, &[0, 3, 3, 8, 8], &[0, 1, 0, 1, 0], 12);
+    times(rt, plan.finishes.as_slice(), &[3, 5, 8, 9, 12]);
 }
 
 // Nodes 3 and 4 are ready when nodes 0 and 1 have both finished, and then go before node 2.
@@ -106,7 +108,9 @@ pub fn assigns_past_a_slot<S: Store<u32, NodeWeight = u64, EdgeWeight = ()>>(
     let edges = [(0, 1), (1, 2), (0, 3)];
     let mut dag = dag_of::<S>(rt, alloc, &[2, 9, 1, 3], &edges);
     holds(rt, dag.remove_node(node(rt, 1)).is_some());
-    found(rt, &assign(rt, alloc, &dag, 1), &[0, 0, 5, 2], &[0; 4], 6);
+    let plan = assign(rt, alloc, &dag, 1);
+    found(rt, &plan, &[0, 0, 5, 2], &[0; 4], 6);
+    times(rt, plan.finishes.as_slice(), &[2, 0, 6, 5]);
 }
 
 #[test]

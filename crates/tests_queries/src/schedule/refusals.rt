@@ -1,11 +1,12 @@
 //! Calls while memory is refused once. `rt try --test --fail-alloc N` refuses the Nth allocation: a
 //! call that is refused says so, and succeeds when it is made again.
 use super::scenes::{Scene, compact, stable};
-use super::support::Plain;
+use super::support::{Plain, times};
 use crate::support::{lists, made, node, same};
 use daggy_base::index::NodeIndex;
 use daggy_base::store::Store;
 use daggy_schedule::fallible_ready::FallibleReady;
+use daggy_schedule::levels::bottom_levels;
 use daggy_schedule::on_workers::schedule_on;
 use daggy_schedule::order_by::topological_order_by;
 use daggy_schedule::ready::Ready;
@@ -88,6 +89,24 @@ fn schedule_again<S: Store<u32, NodeWeight = u64, EdgeWeight = ()>>(
         Err(ScheduleError::Overflow) => panic!(rt; "the nodes do not take too long"),
     };
     same(rt, plan.makespan, 5);
+    let float = match plan.free_float(alloc, dag) {
+        Ok(float) => float,
+        Err(AllocError) => made(rt, plan.free_float(alloc, dag)),
+    };
+    times(rt, float.as_slice(), &[0, 0]);
+}
+
+fn levels_again<S: Store<u32, NodeWeight = u64, EdgeWeight = ()>>(
+    rt: &impl Abort,
+    alloc: Global,
+    dag: &Plain<S>,
+) {
+    let levels = match bottom_levels(alloc, dag, |_, duration| *duration) {
+        Ok(levels) => levels,
+        Err(ScheduleError::Memory) => made(rt, bottom_levels(alloc, dag, |_, duration| *duration)),
+        Err(ScheduleError::Overflow) => panic!(rt; "the nodes do not take too long"),
+    };
+    times(rt, levels.as_slice(), &[5, 3]);
 }
 
 fn schedule_with_lags_again<S: Store<u32, NodeWeight = u64, EdgeWeight = ()>>(
@@ -140,6 +159,7 @@ pub fn again<S: Store<u32, NodeWeight = u64, EdgeWeight = ()>>(rt: &impl Abort, 
     ready_by_key_again(rt, alloc, &dag);
     fallible_ready_again(rt, alloc, &dag);
     schedule_again(rt, alloc, &dag);
+    levels_again(rt, alloc, &dag);
     schedule_with_lags_again(rt, alloc, &dag);
     order_again(rt, alloc, &dag);
     assign_again(rt, alloc, &dag);

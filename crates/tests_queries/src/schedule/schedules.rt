@@ -7,6 +7,7 @@ use super::support::{Plain, dag_of, times, turned_dag_of};
 use crate::support::{holds, lists, made, node, same};
 use daggy_base::source::EdgeSource;
 use daggy_base::store::Store;
+use daggy_schedule::levels::bottom_levels;
 use daggy_schedule::schedule::{Schedule, ScheduleError};
 use std::alloc::Global;
 use std::process::Abort;
@@ -19,6 +20,8 @@ fn plans<S: Store<u32, NodeWeight = u64, EdgeWeight = ()>>(rt: &impl Abort, allo
     times(rt, plan.starts.as_slice(), &[0, 3, 3, 8, 8]);
     times(rt, plan.finishes.as_slice(), &[3, 5, 8, 9, 12]);
     times(rt, plan.slack.as_slice(), &[0, 6, 0, 3, 0]);
+    let float = made(rt, plan.free_float(alloc, &dag));
+    times(rt, float.as_slice(), &[0, 3, 0, 3, 0]);
     same(rt, plan.makespan, 12);
     lists(rt, plan.critical.as_slice(), &[0, 2, 4]);
 }
@@ -101,6 +104,45 @@ fn plans_with_lags<S: Store<u32, NodeWeight = u64, EdgeWeight = ()>>(
     lists(rt, plan.critical.as_slice(), &[0, 1, 3]);
 }
 
+// Node 1 has slack, but its child 4 starts as soon as the lag after it has passed.
+fn floats_with_lags<S: Store<u32, NodeWeight = u64, EdgeWeight = ()>>(
+    rt: &impl Abort,
+    alloc: Global,
+) {
+    let edges = [(0, 1), (0, 2), (1, 3), (2, 3), (1, 4)];
+    let dag = dag_of::<S>(rt, alloc, &[3, 2, 5, 1, 2], &edges);
+    let plan = Schedule::with_lags(
+        alloc,
+        &dag,
+        |_, duration| *duration,
+        |e, _| e.index() as u64,
+    );
+    let plan = made(rt, plan);
+    times(rt, plan.starts.as_slice(), &[0, 3, 4, 12, 9]);
+    times(rt, plan.slack.as_slice(), &[0, 2, 0, 0, 2]);
+    let float = made(rt, plan.free_float(alloc, &dag));
+    times(rt, float.as_slice(), &[0, 0, 0, 0, 2]);
+}
+
+// The longest paths from the nodes.
+fn levels<S: Store<u32, NodeWeight = u64, EdgeWeight = ()>>(rt: &impl Abort, alloc: Global) {
+    let edges = [(0, 1), (0, 2), (1, 3), (2, 3), (2, 4), (0, 2)];
+    let dag = dag_of::<S>(rt, alloc, &[3, 2, 5, 1, 4], &edges);
+    let levels = made(rt, bottom_levels(alloc, &dag, |_, duration| *duration));
+    times(rt, levels.as_slice(), &[12, 3, 9, 1, 4]);
+    let long = dag_of::<S>(rt, alloc, &[u64::MAX - 1, 1, u64::MAX], &[(0, 1)]);
+    let levels = made(rt, bottom_levels(alloc, &long, |_, duration| *duration));
+    times(rt, levels.as_slice(), &[u64::MAX, 1, u64::MAX]);
+    let longer = dag_of::<S>(rt, alloc, &[u64::MAX, 1], &[(0, 1)]);
+    holds(
+        rt,
+        matches!(
+            bottom_levels(alloc, &longer, |_, duration| *duration),
+            Err(ScheduleError::Overflow)
+        ),
+    );
+}
+
 // The lags of both edges to node 2 end at the same time.
 fn plans_the_lowest_with_lags<S: Store<u32, NodeWeight = u64, EdgeWeight = ()>>(
     rt: &impl Abort,
@@ -163,6 +205,8 @@ pub fn plans_all<S: Store<u32, NodeWeight = u64, EdgeWeight = ()>>(rt: &impl Abo
     plans_alike::<S>(rt, alloc);
     plans_by_table::<S>(rt, alloc);
     plans_with_lags::<S>(rt, alloc);
+    floats_with_lags::<S>(rt, alloc);
+    levels::<S>(rt, alloc);
     plans_the_lowest_with_lags::<S>(rt, alloc);
     plans_too_long_a_lag::<S>(rt, alloc);
     plans_none::<S>(rt, alloc);
@@ -181,6 +225,10 @@ pub fn plans_past_a_slot<S: Store<u32, NodeWeight = u64, EdgeWeight = ()>>(
     let plan = made(rt, Schedule::new(alloc, &dag, |_, duration| *duration));
     times(rt, plan.starts.as_slice(), &[0, 0, 0, 2]);
     times(rt, plan.slack.as_slice(), &[0, 0, 4, 0]);
+    let float = made(rt, plan.free_float(alloc, &dag));
+    times(rt, float.as_slice(), &[0, 0, 4, 0]);
+    let levels = made(rt, bottom_levels(alloc, &dag, |_, duration| *duration));
+    times(rt, levels.as_slice(), &[5, 0, 1, 3]);
     same(rt, plan.makespan, 5);
     lists(rt, plan.critical.as_slice(), &[0, 3]);
     let lags = [7, 7, 4];

@@ -8,6 +8,7 @@ use daggy_graph::graph::DiGraph;
 use daggy_stable::stable_graph::StableDiGraph;
 use daggy_traversal::bfs::Bfs;
 use daggy_traversal::dfs::Dfs;
+use daggy_traversal::dfs_oldest_first::DfsOldestFirst;
 use daggy_traversal::post_order::DfsPostOrder;
 use daggy_walk::walker::{FiniteWalker, Walker};
 use std::alloc::Global;
@@ -57,6 +58,8 @@ fn first_nodes<S: Store<u32, NodeWeight = (), EdgeWeight = ()>>(rt: &impl Abort,
     begins(rt, alloc, &graph, breadth, &[0, 2, 1]);
     let depth = made(rt, Dfs::new(alloc, &graph, start, Outgoing));
     begins(rt, alloc, &graph, depth, &[0, 2, 3]);
+    let oldest_first = made(rt, DfsOldestFirst::new(alloc, &graph, start, Outgoing));
+    begins(rt, alloc, &graph, oldest_first, &[0, 1, 3]);
     let postorder = made(rt, DfsPostOrder::new(alloc, &graph, start, Outgoing));
     begins(rt, alloc, &graph, postorder, &[4, 3, 2]);
 }
@@ -68,6 +71,8 @@ fn other_nodes<S: Store<u32, NodeWeight = (), EdgeWeight = ()>>(rt: &impl Abort,
     goes_on(rt, alloc, &graph, breadth, 4, &[3, 1, 2, 0]);
     let depth = made(rt, Dfs::new(alloc, &graph, start, Incoming));
     goes_on(rt, alloc, &graph, depth, 4, &[3, 1, 0, 2]);
+    let oldest_first = made(rt, DfsOldestFirst::new(alloc, &graph, start, Incoming));
+    goes_on(rt, alloc, &graph, oldest_first, 4, &[3, 2, 0, 1]);
     let postorder = made(rt, DfsPostOrder::new(alloc, &graph, start, Incoming));
     goes_on(rt, alloc, &graph, postorder, 0, &[1, 2, 3, 4]);
 }
