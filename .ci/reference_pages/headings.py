@@ -8,7 +8,7 @@ from sources import blocks_of, told_clauses
 # The calls that take O(1), by the type that they belong to ("" for functions); all others need a `# Complexity`. A call that
 # returns an iterator counts as O(1) if each of its steps does, and so does a call that exists only for proofs.
 CONSTANT = {
-    "": "edge_table graphml mermaid node_table reduction_is_least reductions_are_alike values_are_decided "
+    "": "edge_table graphml mermaid node_table reduction_is_least reductions_are_alike tables_are_read_back values_are_decided "
     "values_stay_computed",
     "AddError": "into_parts",
     "AdjMatrix": "has join",
