@@ -9,66 +9,66 @@ use Rattle.daggy_tables.specs.Rows.{Field, Row, number_of, index_below, edge_bet
 
 -- the field at a place, as code reads it
 abbrev pub field_of : Row → ℕ → Field
-field_of row i = unwrap_or (field_at row i) []
+field_of fields i = unwrap_or (field_at fields i) []
 
-two_fields : (row : Row) → length row ≡ 2 → row ≡ field_of row 0 ∷ field_of row 1 ∷ []
+two_fields : (fields : Row) → length fields ≡ 2 → fields ≡ field_of fields 0 ∷ field_of fields 1 ∷ []
 unfolding field_at
 two_fields [] h = cc h
 two_fields (a ∷ []) h = cc h
 two_fields (a ∷ b ∷ []) h = refl
-two_fields (a ∷ b ∷ x ∷ row) h = absurd (omega (arith, h))
+two_fields (a ∷ b ∷ x ∷ fields) h = absurd (omega (arith, h))
 
-three_fields : (row : Row) → length row ≡ 3 → row ≡ field_of row 0 ∷ field_of row 1 ∷ field_of row 2 ∷ []
+three_fields : (fields : Row) → length fields ≡ 3 → fields ≡ field_of fields 0 ∷ field_of fields 1 ∷ field_of fields 2 ∷ []
 unfolding field_at
 three_fields [] h = cc h
 three_fields (a ∷ []) h = cc h
 three_fields (a ∷ b ∷ []) h = cc h
 three_fields (a ∷ b ∷ x ∷ []) h = refl
-three_fields (a ∷ b ∷ x ∷ y ∷ row) h = absurd (omega (arith, h))
+three_fields (a ∷ b ∷ x ∷ y ∷ fields) h = absurd (omega (arith, h))
 
 pub within_limit : {A : Type 0} (limit n : ℕ) (said : Result A RowFault) → n < limit → within limit n said ≡ said
 within_limit limit n said below = rw (lt-ltb n limit below) refl
 
-module _ (limit e bound : ℕ) (beyond : RowFault) (row : Row) where
+module _ (limit e bound : ℕ) (beyond : RowFault) (fields : Row) where
   -- the edge of three fields, from what each of them says
-  pub edge_said : (a b weight : Field) (parent child : Result ℕ RowFault) → e < limit → length row ≡ 3
-      → a ≡ field_of row 0 → b ≡ field_of row 1 → weight ≡ field_of row 2
+  pub edge_said : (a b weight : Field) (parent child : Result ℕ RowFault) → e < limit → length fields ≡ 3
+      → a ≡ field_of fields 0 → b ≡ field_of fields 1 → weight ≡ field_of fields 2
       → parent ≡ index_below bound beyond (number_of a) → child ≡ index_below bound beyond (number_of b)
-      → within limit e (edge_of_fields bound beyond row) ≡ edge_between parent child weight
+      → within limit e (edge_of_fields bound beyond fields) ≡ edge_between parent child weight
   edge_said a b weight parent child below three first second third from to =
-      within_limit limit e (edge_of_fields bound beyond row) below
-      ∙ ap (edge_of_fields bound beyond) (three_fields row three)
-      ∙ sym (ap (λ f. edge_between (index_below bound beyond (number_of f)) (index_below bound beyond (number_of (field_of row 1))) (field_of row 2)) first)
-      ∙ sym (ap (λ f. edge_between (index_below bound beyond (number_of a)) (index_below bound beyond (number_of f)) (field_of row 2)) second)
+      within_limit limit e (edge_of_fields bound beyond fields) below
+      ∙ ap (edge_of_fields bound beyond) (three_fields fields three)
+      ∙ sym (ap (λ f. edge_between (index_below bound beyond (number_of f)) (index_below bound beyond (number_of (field_of fields 1))) (field_of fields 2)) first)
+      ∙ sym (ap (λ f. edge_between (index_below bound beyond (number_of a)) (index_below bound beyond (number_of f)) (field_of fields 2)) second)
       ∙ sym (ap (λ f. edge_between (index_below bound beyond (number_of a)) (index_below bound beyond (number_of b)) f) third)
       ∙ sym (ap (λ r. edge_between r (index_below bound beyond (number_of b)) weight) from)
       ∙ sym (ap (λ r. edge_between parent r weight) to)
 
   -- the parent is at fault
-  pub parent_at_fault : (a : Field) (parent : Result ℕ RowFault) (fault : RowFault) → e < limit → length row ≡ 3
-      → a ≡ field_of row 0 → parent ≡ index_below bound beyond (number_of a) → parent ≡ Err fault
-      → within limit e (edge_of_fields bound beyond row) ≡ Err fault
+  pub parent_at_fault : (a : Field) (parent : Result ℕ RowFault) (fault : RowFault) → e < limit → length fields ≡ 3
+      → a ≡ field_of fields 0 → parent ≡ index_below bound beyond (number_of a) → parent ≡ Err fault
+      → within limit e (edge_of_fields bound beyond fields) ≡ Err fault
   parent_at_fault a parent fault below three first from is =
-      edge_said a (field_of row 1) (field_of row 2) parent _ below three first refl refl from refl
-      ∙ ap (λ r. edge_between r (index_below bound beyond (number_of (field_of row 1))) (field_of row 2)) is
+      edge_said a (field_of fields 1) (field_of fields 2) parent _ below three first refl refl from refl
+      ∙ ap (λ r. edge_between r (index_below bound beyond (number_of (field_of fields 1))) (field_of fields 2)) is
 
   -- the child is
-  pub child_at_fault : (a b : Field) (parent child : Result ℕ RowFault) (n : ℕ) (fault : RowFault) → e < limit → length row ≡ 3
-      → a ≡ field_of row 0 → b ≡ field_of row 1
+  pub child_at_fault : (a b : Field) (parent child : Result ℕ RowFault) (n : ℕ) (fault : RowFault) → e < limit → length fields ≡ 3
+      → a ≡ field_of fields 0 → b ≡ field_of fields 1
       → parent ≡ index_below bound beyond (number_of a) → child ≡ index_below bound beyond (number_of b)
       → parent ≡ Ok n → child ≡ Err fault
-      → within limit e (edge_of_fields bound beyond row) ≡ Err fault
+      → within limit e (edge_of_fields bound beyond fields) ≡ Err fault
   child_at_fault a b parent child n fault below three first second from to is at_fault =
-      edge_said a b (field_of row 2) parent child below three first second refl from to
-      ∙ ap (λ r. edge_between r child (field_of row 2)) is
-      ∙ ap (λ r. edge_between (Ok n) r (field_of row 2)) at_fault
+      edge_said a b (field_of fields 2) parent child below three first second refl from to
+      ∙ ap (λ r. edge_between r child (field_of fields 2)) is
+      ∙ ap (λ r. edge_between (Ok n) r (field_of fields 2)) at_fault
 
   -- the edge
-  pub edge_found : (a b weight : Field) (parent child : Result ℕ RowFault) (n m : ℕ) → e < limit → length row ≡ 3
-      → a ≡ field_of row 0 → b ≡ field_of row 1 → weight ≡ field_of row 2
+  pub edge_found : (a b weight : Field) (parent child : Result ℕ RowFault) (n m : ℕ) → e < limit → length fields ≡ 3
+      → a ≡ field_of fields 0 → b ≡ field_of fields 1 → weight ≡ field_of fields 2
       → parent ≡ index_below bound beyond (number_of a) → child ≡ index_below bound beyond (number_of b)
       → parent ≡ Ok n → child ≡ Ok m
-      → within limit e (edge_of_fields bound beyond row) ≡ Ok (record { parent = n; child = m; weight = weight })
+      → within limit e (edge_of_fields bound beyond fields) ≡ Ok (record { parent = n; child = m; weight = weight })
   edge_found a b weight parent child n m below three first second third from to is also =
       edge_said a b weight parent child below three first second third from to
       ∙ ap (λ r. edge_between r child weight) is
@@ -98,35 +98,35 @@ weight_refused n (Some i) weight fault is = elim (cases_Bool (nat_lt i (n + 1)))
       ]
 ]
 
-module _ (limit n : ℕ) (row : Row) where
-  node_said : (a : Field) → n < limit → length row ≡ 2 → a ≡ field_of row 0
-      → within limit n (node_of_fields n row) ≡ weight_after n (number_of a) (field_of row 1)
+module _ (limit n : ℕ) (fields : Row) where
+  node_said : (a : Field) → n < limit → length fields ≡ 2 → a ≡ field_of fields 0
+      → within limit n (node_of_fields n fields) ≡ weight_after n (number_of a) (field_of fields 1)
   node_said a below two first =
-      within_limit limit n (node_of_fields n row) below
-      ∙ ap (node_of_fields n) (two_fields row two)
-      ∙ sym (ap (λ f. weight_after n (number_of f) (field_of row 1)) first)
+      within_limit limit n (node_of_fields n fields) below
+      ∙ ap (node_of_fields n) (two_fields fields two)
+      ∙ sym (ap (λ f. weight_after n (number_of f) (field_of fields 1)) first)
 
-  pub index_at_fault : (a : Field) (read : Result ℕ RowFault) (fault : RowFault) → n < limit → length row ≡ 2 → a ≡ field_of row 0
+  pub index_at_fault : (a : Field) (read : Result ℕ RowFault) (fault : RowFault) → n < limit → length fields ≡ 2 → a ≡ field_of fields 0
       → read ≡ index_below (n + 1) NotInOrder (number_of a) → read ≡ Err fault
-      → within limit n (node_of_fields n row) ≡ Err fault
+      → within limit n (node_of_fields n fields) ≡ Err fault
   index_at_fault a read fault below two first from is =
-      node_said a below two first ∙ weight_refused n (number_of a) (field_of row 1) fault (sym from ∙ is)
+      node_said a below two first ∙ weight_refused n (number_of a) (field_of fields 1) fault (sym from ∙ is)
 
-  node_after : (a : Field) (read : Result ℕ RowFault) (index : ℕ) → n < limit → length row ≡ 2 → a ≡ field_of row 0
+  node_after : (a : Field) (read : Result ℕ RowFault) (index : ℕ) → n < limit → length fields ≡ 2 → a ≡ field_of fields 0
       → read ≡ index_below (n + 1) NotInOrder (number_of a) → read ≡ Ok index
-      → within limit n (node_of_fields n row) ≡ weight_after n (Some index) (field_of row 1)
+      → within limit n (node_of_fields n fields) ≡ weight_after n (Some index) (field_of fields 1)
   node_after a read index below two first from is =
-      node_said a below two first ∙ weight_read n (number_of a) (field_of row 1) index (sym from ∙ is)
+      node_said a below two first ∙ weight_read n (number_of a) (field_of fields 1) index (sym from ∙ is)
 
-  pub not_in_order : (a : Field) (read : Result ℕ RowFault) (index : ℕ) → n < limit → length row ≡ 2 → a ≡ field_of row 0
+  pub not_in_order : (a : Field) (read : Result ℕ RowFault) (index : ℕ) → n < limit → length fields ≡ 2 → a ≡ field_of fields 0
       → read ≡ index_below (n + 1) NotInOrder (number_of a) → read ≡ Ok index → (index ≡ n → ⊥)
-      → within limit n (node_of_fields n row) ≡ Err NotInOrder
+      → within limit n (node_of_fields n fields) ≡ Err NotInOrder
   not_in_order a read index below two first from is other =
       node_after a read index below two first from is ∙ rw (ne_eqb index n other) refl
 
-  pub node_found : (a weight : Field) (read : Result ℕ RowFault) (index : ℕ) → n < limit → length row ≡ 2 → a ≡ field_of row 0
-      → weight ≡ field_of row 1
+  pub node_found : (a weight : Field) (read : Result ℕ RowFault) (index : ℕ) → n < limit → length fields ≡ 2 → a ≡ field_of fields 0
+      → weight ≡ field_of fields 1
       → read ≡ index_below (n + 1) NotInOrder (number_of a) → read ≡ Ok index → index ≡ n
-      → within limit n (node_of_fields n row) ≡ Ok weight
+      → within limit n (node_of_fields n fields) ≡ Ok weight
   node_found a weight read index below two first second from is same =
       node_after a read index below two first from is ∙ rw (eq-eqb index n same) (ap (λ (w : Field). Ok w) (sym second))

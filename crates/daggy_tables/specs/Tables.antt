@@ -26,7 +26,7 @@ abbrev pub rows_below : (header : Row) → List Row → Option (List Row)
 rows_below header [] = None
 rows_below header (row ∷ rows) = if same_fields row header then Some rows else None
 
--- what these rows say; the header is row 0
+-- what these rows say; the header has number 0
 abbrev pub said_below : {A : Type 0} → (ℕ → Row → Result A RowFault) → Option (List Row) → Result (List A) (ℕ × RowFault)
 said_below says None = Err (0, Header)
 said_below says (Some rows) = rows_from says 0 rows
